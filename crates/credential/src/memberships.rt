@@ -1,0 +1,45 @@
+// Memberships, and their places in a table.
+ghost use mathlib.Core.Path.{_≡_};
+ghost use Prim.Native.Nat.{_<_};
+ghost use Rattle.credential.specs.Memberships.{place, membershipAt};
+use crate::numbers::Entity;
+use crate::numbers::EntityDebug;
+use crate::numbers::RoleName;
+use crate::roles::Role;
+use crate::roles::RoleDebug;
+
+// That an entity belongs to a role.
+#[derive(Clone, Copy, Debug)]
+pub struct Membership {
+    pub role: Role,
+    pub member: Entity,
+}
+
+impl Membership {
+    // How many there are.
+    pub const COUNT: usize = 16384;
+
+    // Its place in a table of all memberships, from 0.
+    pub fn place(self) -> usize
+        ensures value { λ r. ⌜ r ≡ place self ⌝ }
+        ensures within { λ r. ⌜ r < 16384 ⌝ }
+    {
+        let owner = self.role.owner.number() as usize;
+        let name = self.role.name.number() as usize;
+        let member = self.member.number() as usize;
+        ((owner - 1) * 16 + (name - 1)) * 32 + (member - 1)
+    }
+
+    // The membership at a place, absent past the last.
+    pub fn at(place: usize) -> Option<Membership>
+        ensures { λ r. ⌜ r ≡ membershipAt place ⌝ }
+    {
+        if place >= Self::COUNT {
+            return None;
+        }
+        let owner = Entity::new((place / 512 + 1) as u32).ok()?;
+        let name = RoleName::new((place / 32 % 16 + 1) as u32).ok()?;
+        let member = Entity::new((place % 32 + 1) as u32).ok()?;
+        Some(Membership { role: Role { owner, name }, member })
+    }
+}

@@ -1,0 +1,24 @@
+// Roles.
+ghost use mathlib.Core.Path.{_≡_};
+ghost use Rattle.std.specs.Orderings.{Decides};
+use crate::numbers::Entity;
+use crate::numbers::RoleName;
+use crate::numbers::calls::EntityPartialEq;
+use crate::numbers::calls::RoleNamePartialEq;
+use crate::numbers::EntityDebug;
+use crate::numbers::RoleNameDebug;
+
+// A role name in the hands of the entity that defines its members, shown as `1.3`.
+#[derive(Clone, Copy, Debug)]
+pub struct Role {
+    pub owner: Entity,
+    pub name: RoleName,
+}
+
+pub impl PartialEq<Role> for Role as RolePartialEq {
+    ghost equals = { λ x y r. Decides r (x ≡ y) };
+
+    fn eq(&self, other: &Role) -> bool {
+        self.owner == other.owner && self.name == other.name
+    }
+}
