@@ -4,3 +4,4 @@ pub mod Memberships
 pub mod Letters
 pub mod Credentials
 pub mod Sources
+pub mod Notation

@@ -1,6 +1,9 @@
 // Credentials: who says that which entities belong to a role.
 ghost use mathlib.Core.Path.{_≡_};
 ghost use Rattle.std.specs.Orderings.{Decides};
+ghost use Rattle.std.specs.Vec.{made};
+ghost use Rattle.std.specs.declared.option.Option.the-variants.{Some};
+ghost use Rattle.std.specs.declared.result.Result.the-variants.{Ok};
 ghost use Rattle.credential.specs.Credentials.{letterOf, fieldsOf, entityIn, roleNameIn, roleIn, fitted, builtOf, credentialOf};
 ghost use Rattle.credential.specs.Letters.{marksOf};
 ghost use Rattle.credential.specs.Refusals.{answered};
@@ -29,7 +32,8 @@ pub enum Credential {
 impl Credential {
     // The credential of a letter and six fields, each tested against its mark, from left to right.
     pub fn new(letter: Letter, fields: [Option<u32>; 6]) -> Result<Credential, Refusal>
-        ensures { λ r. ⌜ answered r ≡ credentialOf letter fields ⌝ }
+        ensures value { λ r. ⌜ answered r ≡ credentialOf letter fields ⌝ }
+        ensures has { λ r. ⌜ made r (λ c. (letterOf c ≡ letter) × (fieldsOf c ≡ fields)) ⌝ }
     {
         test_fields(letter, fields)?;
         build(letter, fields)
@@ -46,6 +50,65 @@ impl Credential {
             Credential::Exclusion { .. } => Letter::Exclusion,
         }
     }
+
+    // Its six fields, of which each fits its mark; a credential is made of its letter and these.
+    pub fn fields(self) -> [Option<u32>; 6]
+        ensures value { λ r. ⌜ r ≡ fieldsOf self ⌝ }
+        ensures fit { λ r. ⌜ fitted (marksOf (letterOf self)) r ≡ Ok tt ⌝ }
+        ensures back { λ r. ⌜ credentialOf (letterOf self) r ≡ Ok self ⌝ }
+    {
+        fields_of(self)
+    }
+}
+
+fn fields_of(credential: Credential) -> [Option<u32>; 6]
+    ensures { λ r. ⌜ r ≡ fieldsOf credential ⌝ }
+{
+    match credential {
+        Credential::Member { head, member } => {
+            let (a, r) = role_fields(head);
+            [a, r, entity_field(member), None, None, None]
+        }
+        Credential::Inclusion { head, from } => {
+            let (a, r) = role_fields(head);
+            let (b, s) = role_fields(from);
+            [a, r, b, s, None, None]
+        }
+        Credential::Linked { head, first, second } => {
+            let (a, r) = role_fields(head);
+            [a, r, None, role_name_field(first), None, role_name_field(second)]
+        }
+        Credential::Intersection { head, left, right } => {
+            let (a, r) = role_fields(head);
+            let (b, s) = role_fields(left);
+            let (c, t) = role_fields(right);
+            [a, r, b, s, c, t]
+        }
+        Credential::Exclusion { head, from, except } => {
+            let (a, r) = role_fields(head);
+            let (b, s) = role_fields(from);
+            let (c, t) = role_fields(except);
+            [a, r, b, s, c, t]
+        }
+    }
+}
+
+fn entity_field(entity: Entity) -> Option<u32>
+    ensures { λ r. ⌜ r ≡ Some (entity .number) ⌝ }
+{
+    Some(entity.number() as u32)
+}
+
+fn role_name_field(name: RoleName) -> Option<u32>
+    ensures { λ r. ⌜ r ≡ Some (name .number) ⌝ }
+{
+    Some(name.number() as u32)
+}
+
+fn role_fields(role: Role) -> (Option<u32>, Option<u32>)
+    ensures { λ r. ⌜ r ≡ (Some (role .owner .number), Some (role .name .number)) ⌝ }
+{
+    (entity_field(role.owner), role_name_field(role.name))
 }
 
 fn test_fields(letter: Letter, fields: [Option<u32>; 6]) -> Result<(), Refusal>

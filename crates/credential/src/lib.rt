@@ -2,6 +2,7 @@
 pub mod credentials;
 pub mod letters;
 pub mod memberships;
+pub mod notation;
 pub mod numbers;
 pub mod refusals;
 pub mod roles;

@@ -1,6 +1,8 @@
 // Memberships, and their places in a table.
 ghost use mathlib.Core.Path.{_≡_};
-ghost use Prim.Native.Nat.{_<_};
+ghost use Prim.Native.Nat.{_<_, _≤_};
+ghost use Rattle.std.specs.Options.{Cases};
+ghost use Rattle.std.specs.declared.option.Option.the-variants.{Some};
 ghost use Rattle.credential.specs.Memberships.{place, membershipAt};
 use crate::numbers::Entity;
 use crate::numbers::EntityDebug;
@@ -23,6 +25,7 @@ impl Membership {
     pub fn place(self) -> usize
         ensures value { λ r. ⌜ r ≡ place self ⌝ }
         ensures within { λ r. ⌜ r < 16384 ⌝ }
+        ensures back { λ r. ⌜ membershipAt (place self) ≡ Some self ⌝ }
     {
         let owner = self.role.owner.number() as usize;
         let name = self.role.name.number() as usize;
@@ -31,15 +34,22 @@ impl Membership {
     }
 
     // The membership at a place, absent past the last.
-    pub fn at(place: usize) -> Option<Membership>
-        ensures { λ r. ⌜ r ≡ membershipAt place ⌝ }
+    pub fn at(index: usize) -> Option<Membership>
+        ensures value { λ r. ⌜ r ≡ membershipAt index ⌝ }
+        ensures back { λ r. ⌜ Cases r (16384 ≤ index) (λ m. place m ≡ index) ⌝ }
     {
-        if place >= Self::COUNT {
-            return None;
-        }
-        let owner = Entity::new((place / 512 + 1) as u32).ok()?;
-        let name = RoleName::new((place / 32 % 16 + 1) as u32).ok()?;
-        let member = Entity::new((place % 32 + 1) as u32).ok()?;
-        Some(Membership { role: Role { owner, name }, member })
+        read_place(index)
     }
+}
+
+fn read_place(index: usize) -> Option<Membership>
+    ensures { λ r. ⌜ r ≡ membershipAt index ⌝ }
+{
+    if index >= Membership::COUNT {
+        return None;
+    }
+    let owner = Entity::new((index / 512 + 1) as u32).ok()?;
+    let name = RoleName::new((index / 32 % 16 + 1) as u32).ok()?;
+    let member = Entity::new((index % 32 + 1) as u32).ok()?;
+    Some(Membership { role: Role { owner, name }, member })
 }
