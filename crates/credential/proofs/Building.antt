@@ -53,7 +53,7 @@ fitted-parts m ms f fs e =
 in-range : (most n : ℕ) → 1 ≤ n → n ≤ most → ranged most n ≡ Ok tt
 in-range most n a b = cond-true (leb 1 n) _ _ (le-leb 1 n a) ∙ cond-true (leb n most) _ _ (le-leb n most b)
 
-range-of : (most n : ℕ) → ranged most n ≡ Ok tt → (1 ≤ n) × (n ≤ most)
+pub range-of : (most n : ℕ) → ranged most n ≡ Ok tt → (1 ≤ n) × (n ≤ most)
 range-of most n e = (grind (arith, tells), grind (arith, tells))
 
 fit-entity : (e : Entity) → tested E (Some (e .number)) ≡ Ok tt
@@ -95,6 +95,13 @@ fields-fit (Inclusion h f) = fit-role h _ _ (fit-role f _ _ (fit-none _ _ (fit-n
 fields-fit (Linked h s t) = fit-role h _ _ (fit-none _ _ (fitted-both N _ _ _ (fit-name s) (fit-none _ _ (fitted-both N _ _ _ (fit-name t) fit-end))))
 fields-fit (Intersection h f g) = fit-role h _ _ (fit-role f _ _ (fit-role g _ _ fit-end))
 fields-fit (Exclusion h f g) = fit-role h _ _ (fit-role f _ _ (fit-role g _ _ fit-end))
+
+pub six-fields-of : (c : Credential) → length (fieldsOf c) ≡ 6
+six-fields-of (Member h d) = refl
+six-fields-of (Inclusion h f) = refl
+six-fields-of (Linked h s t) = refl
+six-fields-of (Intersection h f g) = refl
+six-fields-of (Exclusion h f g) = refl
 
 -- a credential is made of its letter and its fields
 

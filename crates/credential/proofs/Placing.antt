@@ -24,13 +24,13 @@ at-numbers : (m : Membership) (p : ℕ) → p < 16384 → p / 512 + 1 ≡ m .rol
 at-numbers m p h a b d =
     cond-true (ltb p 16384) _ _ (lt-ltb p 16384 h)
     ∙ ap (λ (o : Option Entity). onSome o (λ owner. onSome (okPart (roleNameOf (p / 32 % 16 + 1))) (λ name.
-        onSome (okPart (entityOf (p % 32 + 1))) (λ member. Some (record { role = record { owner = owner; name = name }; member = member })))))
-        (ap (λ (n : ℕ). okPart (entityOf n)) a ∙ ap okPart (entityOf-is (m .role .owner)))
+    onSome (okPart (entityOf (p % 32 + 1))) (λ member. Some (record { role = record { owner = owner; name = name }; member = member })))))
+    (ap (λ (n : ℕ). okPart (entityOf n)) a ∙ ap okPart (entityOf-is (m .role .owner)))
     ∙ ap (λ (o : Option RoleName). onSome o (λ name.
-        onSome (okPart (entityOf (p % 32 + 1))) (λ member. Some (record { role = record { owner = m .role .owner; name = name }; member = member }))))
-        (ap (λ (n : ℕ). okPart (roleNameOf n)) b ∙ ap okPart (roleNameOf-is (m .role .name)))
+    onSome (okPart (entityOf (p % 32 + 1))) (λ member. Some (record { role = record { owner = m .role .owner; name = name }; member = member }))))
+    (ap (λ (n : ℕ). okPart (roleNameOf n)) b ∙ ap okPart (roleNameOf-is (m .role .name)))
     ∙ ap (λ (o : Option Entity). onSome o (λ member. Some (record { role = m .role; member = member })))
-        (ap (λ (n : ℕ). okPart (entityOf n)) d ∙ ap okPart (entityOf-is (m .member)))
+    (ap (λ (n : ℕ). okPart (entityOf n)) d ∙ ap okPart (entityOf-is (m .member)))
 
 place-below : (a r d : ℕ) → 1 ≤ a → a ≤ 32 → 1 ≤ r → r ≤ 16 → 1 ≤ d → d ≤ 32 → ((a - 1) * 16 + (r - 1)) * 32 + (d - 1) < 16384
 place-below a r d a1 a2 r1 r2 d1 d2 = omega arith
@@ -38,11 +38,11 @@ place-below a r d a1 a2 r1 r2 d1 d2 = omega arith
 pub at-place : (m : Membership) → membershipAt (place m) ≡ Some m
 at-place m =
     let row : place m / 32 ≡ (m .role .owner .number - 1) * 16 + (m .role .name .number - 1) =
-        div-mul-add ((m .role .owner .number - 1) * 16 + (m .role .name .number - 1)) 32 (m .member .number - 1) (high32 (m .member)) in
+    div-mul-add ((m .role .owner .number - 1) * 16 + (m .role .name .number - 1)) 32 (m .member .number - 1) (high32 (m .member)) in
     let name : place m / 32 % 16 ≡ m .role .name .number - 1 =
-        ap (λ (n : ℕ). n % 16) row ∙ mod-mul-add (m .role .owner .number - 1) 16 (m .role .name .number - 1) (high16 (m .role .name)) in
+    ap (λ (n : ℕ). n % 16) row ∙ mod-mul-add (m .role .owner .number - 1) 16 (m .role .name .number - 1) (high16 (m .role .name)) in
     let member : place m % 32 ≡ m .member .number - 1 =
-        mod-mul-add ((m .role .owner .number - 1) * 16 + (m .role .name .number - 1)) 32 (m .member .number - 1) (high32 (m .member)) in
+    mod-mul-add ((m .role .owner .number - 1) * 16 + (m .role .name .number - 1)) 32 (m .member .number - 1) (high32 (m .member)) in
     at-numbers m (place m)
     (place-below (m .role .owner .number) (m .role .name .number) (m .member .number) (m .role .owner .low) (m .role .owner .high) (m .role .name .low) (m .role .name .high) (m .member .low) (m .member .high))
     (owner m)
@@ -73,8 +73,10 @@ there p h =
     m = record {
       role = record {
         owner = record { number = p / 512 + 1; low = omega arith; high = omega arith };
-        name = record { number = p / 32 % 16 + 1; low = omega arith; high = omega arith } };
-      member = record { number = p % 32 + 1; low = omega arith; high = omega arith } }
+        name = record { number = p / 32 % 16 + 1; low = omega arith; high = omega arith };
+      };
+      member = record { number = p % 32 + 1; low = omega arith; high = omega arith };
+    }
 
     back : (p : ℕ) → p < 16384 → ((p / 512 + 1 - 1) * 16 + (p / 32 % 16 + 1 - 1)) * 32 + (p % 32 + 1 - 1) ≡ p
     back p h = omega arith

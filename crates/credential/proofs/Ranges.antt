@@ -16,13 +16,15 @@ pub entity-path : (a b : Entity) → a .number ≡ b .number → a ≡ b
 entity-path a b p = λ i. record {
   number = p i;
   low = isProp→PathP (λ j. 1 ≤ p j) (λ j. le-prop {n = 1} {m = p j}) (a .low) (b .low) i;
-  high = isProp→PathP (λ j. p j ≤ 32) (λ j. le-prop {n = p j} {m = 32}) (a .high) (b .high) i }
+  high = isProp→PathP (λ j. p j ≤ 32) (λ j. le-prop {n = p j} {m = 32}) (a .high) (b .high) i;
+}
 
 pub role-name-path : (a b : RoleName) → a .number ≡ b .number → a ≡ b
 role-name-path a b p = λ i. record {
   number = p i;
   low = isProp→PathP (λ j. 1 ≤ p j) (λ j. le-prop {n = 1} {m = p j}) (a .low) (b .low) i;
-  high = isProp→PathP (λ j. p j ≤ 16) (λ j. le-prop {n = p j} {m = 16}) (a .high) (b .high) i }
+  high = isProp→PathP (λ j. p j ≤ 16) (λ j. le-prop {n = p j} {m = 16}) (a .high) (b .high) i;
+}
 
 -- a number within its range gives what it makes
 pub within-is : {X : Type 0} (most n : ℕ) (make : 1 ≤ n → n ≤ most → X) (x : X) → ((low : 1 ≤ n) (high : n ≤ most) → make low high ≡ x)

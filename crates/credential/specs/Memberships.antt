@@ -21,6 +21,6 @@ abbrev pub membershipAt : ℕ → Option Membership
 membershipAt p =
     cond (ltb p 16384)
     (onSome (okPart (entityOf (p / 512 + 1))) (λ owner.
-        onSome (okPart (roleNameOf (p / 32 % 16 + 1))) (λ name.
-            onSome (okPart (entityOf (p % 32 + 1))) (λ member. Some (record { role = record { owner = owner; name = name }; member = member })))))
+    onSome (okPart (roleNameOf (p / 32 % 16 + 1))) (λ name.
+    onSome (okPart (entityOf (p % 32 + 1))) (λ member. Some (record { role = record { owner = owner; name = name }; member = member })))))
     None

@@ -22,11 +22,29 @@ use crate::roles::RolePartialEq;
 // A credential: its head is the role that it is about, and the rest says who belongs to that.
 #[derive(Clone, Copy, Debug)]
 pub enum Credential {
-    Member { head: Role, member: Entity },
-    Inclusion { head: Role, from: Role },
-    Linked { head: Role, first: RoleName, second: RoleName },
-    Intersection { head: Role, left: Role, right: Role },
-    Exclusion { head: Role, from: Role, except: Role },
+    Member {
+        head: Role,
+        member: Entity,
+    },
+    Inclusion {
+        head: Role,
+        from: Role,
+    },
+    Linked {
+        head: Role,
+        first: RoleName,
+        second: RoleName,
+    },
+    Intersection {
+        head: Role,
+        left: Role,
+        right: Role,
+    },
+    Exclusion {
+        head: Role,
+        from: Role,
+        except: Role,
+    },
 }
 
 impl Credential {
@@ -74,9 +92,20 @@ fn fields_of(credential: Credential) -> [Option<u32>; 6]
             let (b, s) = role_fields(from);
             [a, r, b, s, None, None]
         }
-        Credential::Linked { head, first, second } => {
+        Credential::Linked {
+            head,
+            first,
+            second,
+        } => {
             let (a, r) = role_fields(head);
-            [a, r, None, role_name_field(first), None, role_name_field(second)]
+            [
+                a,
+                r,
+                None,
+                role_name_field(first),
+                None,
+                role_name_field(second),
+            ]
         }
         Credential::Intersection { head, left, right } => {
             let (a, r) = role_fields(head);
@@ -167,7 +196,11 @@ fn build(letter: Letter, fields: [Option<u32>; 6]) -> Result<Credential, Refusal
         Letter::Linked => {
             let first = role_name_in(s)?;
             let second = role_name_in(t)?;
-            Ok(Credential::Linked { head, first, second })
+            Ok(Credential::Linked {
+                head,
+                first,
+                second,
+            })
         }
         Letter::Intersection => {
             let left = role_in(b, s)?;
@@ -195,22 +228,32 @@ pub impl PartialEq<Credential> for Credential as CredentialPartialEq {
                 Credential::Inclusion { head: h, from: f } => head == h && from == f,
                 _ => false,
             },
-            Credential::Linked { head, first, second } => match *other {
-                Credential::Linked { head: h, first: f, second: s } => {
-                    head == h && first == f && second == s
-                }
+            Credential::Linked {
+                head,
+                first,
+                second,
+            } => match *other {
+                Credential::Linked {
+                    head: h,
+                    first: f,
+                    second: s,
+                } => { head == h && first == f && second == s }
                 _ => false,
             },
             Credential::Intersection { head, left, right } => match *other {
-                Credential::Intersection { head: h, left: l, right: r } => {
-                    head == h && left == l && right == r
-                }
+                Credential::Intersection {
+                    head: h,
+                    left: l,
+                    right: r,
+                } => { head == h && left == l && right == r }
                 _ => false,
             },
             Credential::Exclusion { head, from, except } => match *other {
-                Credential::Exclusion { head: h, from: f, except: e } => {
-                    head == h && from == f && except == e
-                }
+                Credential::Exclusion {
+                    head: h,
+                    from: f,
+                    except: e,
+                } => { head == h && from == f && except == e }
                 _ => false,
             },
         }

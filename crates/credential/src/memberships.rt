@@ -51,5 +51,8 @@ fn read_place(index: usize) -> Option<Membership>
     let owner = Entity::new((index / 512 + 1) as u32).ok()?;
     let name = RoleName::new((index / 32 % 16 + 1) as u32).ok()?;
     let member = Entity::new((index % 32 + 1) as u32).ok()?;
-    Some(Membership { role: Role { owner, name }, member })
+    Some(Membership {
+        role: Role { owner, name },
+        member,
+    })
 }

@@ -26,7 +26,11 @@ pub impl fmt::Display for Credential as CredentialDisplay {
                 write!(f, "{head} <- {member}")
             }
             Credential::Inclusion { head, from } => write!(f, "{head} <- {from}"),
-            Credential::Linked { head, first, second } => {
+            Credential::Linked {
+                head,
+                first,
+                second,
+            } => {
                 let owner = head.owner.number();
                 let first = first.number();
                 let second = second.number();

@@ -2,11 +2,11 @@
 ghost use mathlib.Core.Path.{_≡_};
 ghost use Rattle.std.specs.Orderings.{Decides};
 use crate::numbers::Entity;
+use crate::numbers::EntityDebug;
 use crate::numbers::RoleName;
+use crate::numbers::RoleNameDebug;
 use crate::numbers::calls::EntityPartialEq;
 use crate::numbers::calls::RoleNamePartialEq;
-use crate::numbers::EntityDebug;
-use crate::numbers::RoleNameDebug;
 
 // A role name in the hands of the entity that defines its members, shown as `1.3`.
 #[derive(Clone, Copy, Debug)]

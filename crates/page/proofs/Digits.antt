@@ -43,7 +43,7 @@ lead-more xs i n v w m p h e q =
     let k : i ≡ suc (i - 1) = omega arith in
     lead-step xs (numeral (length (set xs (i - 1) v)) m) (i - 1) n v (omega arith) e
     (subst (λ (j : ℕ). lead j n ++ drop j xs ≡ numeral (length (set xs (i - 1) v)) m) k
-        (q ∙ ap (λ (z : ℕ). numeral z m) (sym (length-set xs (i - 1) v))))
+    (q ∙ ap (λ (z : ℕ). numeral z m) (sym (length-set xs (i - 1) v))))
 
 pub lead-all : (xs t : List ℕ) (i n : ℕ) → i ≤ 0 → lead i n ++ drop i xs ≡ t → xs ≡ t
 unfolding lead
@@ -65,9 +65,10 @@ module _ (bs : List ℕ) (i v : ℕ) (h : i < length bs) where
 
   pub leading-more : {r : Option ℕ} (u : ℕ) → next v (getD bs i 0) ≡ Some u → v < 10 ^ i → r ≡ leading v (drop i bs)
       → (r ≡ leading u (drop (i + 1) bs)) × (u < 10 ^ (i + 1))
-  leading-more u e l q =
-      (q ∙ leading-at ∙ ap (λ (o : Option ℕ). onSome o (λ u. leading u (drop (i + 1) bs))) e
-      , let t = ten-more i in let n = next-below v (getD bs i 0) u (10 ^ i) e l in omega arith)
+  leading-more u e l q = (
+    q ∙ leading-at ∙ ap (λ (o : Option ℕ). onSome o (λ u. leading u (drop (i + 1) bs))) e,
+    let t = ten-more i in let n = next-below v (getD bs i 0) u (10 ^ i) e l in omega arith,
+  )
 
   pub leading-stop : {r : Option ℕ} → next v (getD bs i 0) ≡ None → r ≡ leading v (drop i bs) → r ≡ None
   leading-stop e q = q ∙ leading-at ∙ ap (λ (o : Option ℕ). onSome o (λ u. leading u (drop (i + 1) bs))) e

@@ -1,5 +1,6 @@
 -- Decimal numbers in columns: right-justified, blanks on the left, no leading zero.
-use Prim.Native.Nat.{ℕ, zero, suc, _+_, _-_, _*_, _/_, _%_}
+use Prim.Native.Nat.{ℕ, zero, suc, _+_, _-_, _*_, _^_, _/_, _%_, _<_, _≤_}
+use mathlib.Core.Path.{_≡_}
 use mathlib.Core.Bool.{Bool, true, false, cond}
 use mathlib.Core.List.{List, [], _∷_, _++_}
 use lib.Dec.{eqb, leb}
@@ -43,3 +44,8 @@ numberIn bs =
     cond (leb 1 (length bs))
     (cond (leb (length bs) 9) (onSome (leading 0 (take (length bs - 1) bs)) (λ v. last v (getD bs (length bs - 1) 0))) None)
     None
+
+-- what was read of columns is the number of which they are the numeral, and nothing was read if they are none's
+pub record Numbered (bs : List ℕ) (r : Option ℕ) : Type 0 where
+  pub of-read : (n : ℕ) → r ≡ Some n → numeral (length bs) n ≡ bs
+  pub of-numeral : (n : ℕ) → 1 ≤ length bs → length bs ≤ 9 → n < 10 ^ length bs → numeral (length bs) n ≡ bs → r ≡ Some n

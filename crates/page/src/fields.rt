@@ -11,8 +11,16 @@ use credential::Refusal;
 // A field: its three bytes, with its line and its first column. Three blanks are blank, all else is a number.
 #[derive(Clone, Copy)]
 pub enum Field<'a> {
-    Number { bytes: &'a [u8], line: usize, column: usize },
-    Blank { bytes: &'a [u8], line: usize, column: usize },
+    Number {
+        bytes: &'a [u8],
+        line: usize,
+        column: usize,
+    },
+    Blank {
+        bytes: &'a [u8],
+        line: usize,
+        column: usize,
+    },
 }
 
 // Field `k`, from 0, of a line of 20 bytes.
@@ -24,8 +32,16 @@ pub(crate) fn field_at(text: &[u8], line: usize, k: usize) -> Field<'_>
     let bytes = &text[at..at + 3];
     let column = at + 1;
     match bytes {
-        b"   " => Field::Blank { bytes, line, column },
-        _ => Field::Number { bytes, line, column },
+        b"   " => Field::Blank {
+            bytes,
+            line,
+            column,
+        },
+        _ => Field::Number {
+            bytes,
+            line,
+            column,
+        },
     }
 }
 
@@ -35,7 +51,11 @@ pub(crate) fn value_of(field: Field<'_>, mark: Mark) -> Result<Option<u32>, Refu
 {
     match field {
         Field::Blank { line, column, .. } => fit(mark, None, line, column),
-        Field::Number { bytes, line, column } => match read_number(bytes) {
+        Field::Number {
+            bytes,
+            line,
+            column,
+        } => match read_number(bytes) {
             Some(n) => fit(mark, Some(n), line, column),
             None => Err(Refusal::FieldForm { line, column }),
         },

@@ -3,10 +3,17 @@ ghost use mathlib.Core.Path.{_≡_};
 ghost use Prim.Native.Nat.{_^_, _<_, _≤_};
 ghost use lib.ListN.{length};
 ghost use Rattle.std.specs.Slices.{found};
-ghost use Rattle.page.specs.Numerals.{next, leading, numberIn, numeral};
+ghost use Rattle.page.specs.Numerals.{next, leading, numberIn, numeral, Numbered};
 
-// The number in one to nine columns, if its form is lawful.
+// The number in one to nine columns, if its form is lawful: exactly if the columns are a number's numeral.
 pub fn read_number(columns: &[u8]) -> Option<u32>
+    ensures value { λ r. ⌜ r ≡ numberIn (now (columns .entry)) ⌝ }
+    ensures numeral { λ r. ⌜ Numbered (now (columns .entry)) r ⌝ }
+{
+    number_in(columns)
+}
+
+fn number_in(columns: &[u8]) -> Option<u32>
     ensures { λ r. ⌜ r ≡ numberIn (now (columns .entry)) ⌝ }
 {
     let width = columns.len();
@@ -60,7 +67,11 @@ pub fn write_number(columns: &mut [u8], number: u32)
     columns[last] = b'0' + (number % 10) as u8;
     let mut rest = number / 10;
     for i in (0..last).rev() {
-        columns[i] = if rest == 0 { b' ' } else { b'0' + (rest % 10) as u8 };
+        columns[i] = if rest == 0 {
+            b' '
+        } else {
+            b'0' + (rest % 10) as u8
+        };
         rest = rest / 10;
     }
 }

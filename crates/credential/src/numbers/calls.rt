@@ -16,7 +16,9 @@ impl Entity {
         ensures { λ r. ⌜ answered r ≡ entityOf number ⌝ }
     {
         if number >= 1 && number <= Self::MOST as u32 {
-            Ok(Entity { number: number as u8 })
+            Ok(Entity {
+                number: number as u8,
+            })
         } else {
             Err(Refusal::Range)
         }
@@ -39,7 +41,9 @@ impl RoleName {
         ensures { λ r. ⌜ answered r ≡ roleNameOf number ⌝ }
     {
         if number >= 1 && number <= Self::MOST as u32 {
-            Ok(RoleName { number: number as u8 })
+            Ok(RoleName {
+                number: number as u8,
+            })
         } else {
             Err(Refusal::Range)
         }

@@ -12,9 +12,10 @@ pub returns-in-Break-value : need.returns-in-Break-value
 returns-in-Break-value c =
     rw (c .from-residual .ensures)
     (record {
-        value = sym (leading-stop (c .args .columns .now) (c .loop-byte .byte-index) (c .loop-byte .value) (search needs)
-            (sym (c .in-Break-value .ensures tt)) (c .loop-byte .inv .0));
-        small = tt })
+      value = sym (leading-stop (c .args .columns .now) (c .loop-byte .byte-index) (c .loop-byte .value) (search needs)
+          (sym (c .in-Break-value .ensures tt)) (c .loop-byte .inv .0));
+      small = tt;
+    })
 
 pub loop-byte-again : need.loop-byte-again
 loop-byte-again c =
@@ -23,5 +24,6 @@ loop-byte-again c =
 
 pub returns : need.returns
 returns c = record {
-    value = sym (leading-all (c .args .columns .now) (c .loop-byte .byte-index) (c .loop-byte .value) (search needs) (c .loop-byte .inv .0));
-    small = few-digits (c .loop-byte .value) (c .loop-byte .byte-index) 8 (c .loop-byte .inv .1) (search needs) }
+  value = sym (leading-all (c .args .columns .now) (c .loop-byte .byte-index) (c .loop-byte .value) (search needs) (c .loop-byte .inv .0));
+  small = few-digits (c .loop-byte .value) (c .loop-byte .byte-index) 8 (c .loop-byte .inv .1) (search needs);
+}

@@ -9,6 +9,7 @@ use Rattle.credential.proofs.credentials.Credential.fields.Needs as need
 
 pub returns : need.returns
 returns c = record {
-    value = c .fields-of .ensures;
-    fit = ap (λ (fs : List (Option ℕ)). fitted (marksOf (letterOf (c .args .self))) fs) (c .fields-of .ensures) ∙ fields-fit (c .args .self);
-    back = ap (λ (fs : List (Option ℕ)). credentialOf (letterOf (c .args .self)) fs) (c .fields-of .ensures) ∙ made-of-fields (c .args .self) }
+  value = c .fields-of .ensures;
+  fit = ap (λ (fs : List (Option ℕ)). fitted (marksOf (letterOf (c .args .self))) fs) (c .fields-of .ensures) ∙ fields-fit (c .args .self);
+  back = ap (λ (fs : List (Option ℕ)). credentialOf (letterOf (c .args .self)) fs) (c .fields-of .ensures) ∙ made-of-fields (c .args .self);
+}

@@ -9,5 +9,6 @@ use Rattle.credential.proofs.memberships.Membership.at.Needs as need
 
 pub returns : need.returns
 returns c = record {
-    value = c .read-place .ensures;
-    back = subst (λ (o : Option Membership). Cases o (16384 ≤ c .args .index) (λ m. place m ≡ c .args .index)) (sym (c .read-place .ensures)) (place-back (c .args .index)) }
+  value = c .read-place .ensures;
+  back = subst (λ (o : Option Membership). Cases o (16384 ≤ c .args .index) (λ m. place m ≡ c .args .index)) (sym (c .read-place .ensures)) (place-back (c .args .index));
+}
