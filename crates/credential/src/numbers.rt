@@ -1,7 +1,8 @@
 // The numbers of entities and of role names: two types, so that neither is taken for the other.
 ghost use Prim.Native.Nat.{_≤_};
 
-pub mod calls;
+pub mod entity_calls;
+pub mod role_name_calls;
 
 // An entity, by its number from 1 to 32.
 #[derive(Clone, Copy, Debug)]

@@ -5,8 +5,8 @@ use crate::numbers::Entity;
 use crate::numbers::EntityDebug;
 use crate::numbers::RoleName;
 use crate::numbers::RoleNameDebug;
-use crate::numbers::calls::EntityPartialEq;
-use crate::numbers::calls::RoleNamePartialEq;
+use crate::numbers::entity_calls::EntityPartialEq;
+use crate::numbers::role_name_calls::RoleNamePartialEq;
 
 // A role name in the hands of the entity that defines its members, shown as `1.3`.
 #[derive(Clone, Copy, Debug)]

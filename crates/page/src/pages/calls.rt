@@ -33,6 +33,7 @@ fn test_page(bytes: &[u8]) -> Result<(), Refusal>
 }
 
 // What reading answers: the page in place, or the refusal with the empty page.
+#[derive(Clone, Copy)]
 pub struct Reading<'a> {
     pub page: Page<'a>,
     pub refusal: Option<Refusal>,
@@ -58,12 +59,6 @@ impl<'a> Page<'a> {
             },
         }
     }
-
-    pub fn bytes(&self) -> &'a [u8]
-        ensures { λ r. ⌜ now r ≡ now (now (self .entry) .bytes) ⌝ }
-    {
-        self.bytes
-    }
 }
 
 pub impl<'a> Source for Page<'a> as PageSource {
@@ -74,7 +69,7 @@ pub impl<'a> Source for Page<'a> as PageSource {
     }
 
     fn at(&self, place: usize) -> Option<Credential> {
-        if place < 1 || place > self.bytes.len() / 20 {
+        if place < 1 || place > self.count() {
             return None;
         }
         let at = 20 * (place - 1);

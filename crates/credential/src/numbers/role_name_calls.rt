@@ -1,37 +1,11 @@
-// Making an entity or a role name, and what can be asked of it.
+// Making a role name, and what can be asked of it.
 ghost use mathlib.Core.Path.{_≡_};
 ghost use Prim.Native.Nat.{_≤_};
 ghost use Rattle.std.specs.Orderings.{Decides};
-ghost use Rattle.credential.specs.Numbers.{entityOf, roleNameOf};
+ghost use Rattle.credential.specs.Numbers.{roleNameOf};
 ghost use Rattle.credential.specs.Refusals.{answered};
-use crate::numbers::Entity;
 use crate::numbers::RoleName;
 use crate::refusals::Refusal;
-
-impl Entity {
-    pub const MOST: u8 = 32;
-
-    // The entity of a number, or the refusal of one out of range.
-    pub fn new(number: u32) -> Result<Entity, Refusal>
-        ensures { λ r. ⌜ answered r ≡ entityOf number ⌝ }
-    {
-        if number >= 1 && number <= Self::MOST as u32 {
-            Ok(Entity {
-                number: number as u8,
-            })
-        } else {
-            Err(Refusal::Range)
-        }
-    }
-
-    pub fn number(self) -> u8
-        ensures value { λ r. ⌜ r ≡ self .number ⌝ }
-        ensures low { λ r. ⌜ 1 ≤ r ⌝ }
-        ensures high { λ r. ⌜ r ≤ 32 ⌝ }
-    {
-        self.number
-    }
-}
 
 impl RoleName {
     pub const MOST: u8 = 16;
@@ -58,18 +32,10 @@ impl RoleName {
     }
 }
 
-pub impl PartialEq<Entity> for Entity as EntityPartialEq {
-    ghost equals = { λ x y r. Decides r (x ≡ y) };
-
-    fn eq(&self, other: &Entity) -> bool {
-        self.number == other.number
-    }
-}
-
 pub impl PartialEq<RoleName> for RoleName as RoleNamePartialEq {
     ghost equals = { λ x y r. Decides r (x ≡ y) };
 
     fn eq(&self, other: &RoleName) -> bool {
-        self.number == other.number
+        other.number == self.number
     }
 }
