@@ -1,0 +1,4 @@
+pub mod Places
+pub mod Equality
+pub mod Outcomes
+pub mod Walks

@@ -1,0 +1,75 @@
+// A register that keeps its list as records.
+ghost use mathlib.Core.Path.{_≡_};
+ghost use mathlib.Core.List.{[]};
+ghost use Prim.Native.Nat.{_≤_};
+ghost use Rattle.std.specs.Of.Vec.{vec-items, vec-len, vec-cap};
+ghost use Rattle.std.specs.Vec.{made};
+use crate::registers::Register;
+use crate::registers::stands;
+use credential::Credential;
+use credential::Refusal;
+use credential::Source;
+use std::alloc::AllocError;
+use std::alloc::Global;
+
+// Up to 192 records, in memory that is taken at the making.
+#[derive(Drop)]
+pub struct RecordList {
+    records: Vec<Credential>,
+    ghost within: { vec-len records ≤ 192 },
+    ghost room: { 192 ≤ vec-cap records },
+}
+
+impl RecordList {
+    // An empty register, or the want of memory.
+    pub fn new(heap: Global) -> Result<RecordList, AllocError>
+        ensures { λ r. ⌜ made r (λ v. vec-items (v .records) ≡ []) ⌝ }
+    {
+        let records = Vec::with_capacity(heap, Self::CAPACITY)?;
+        Ok(RecordList { records })
+    }
+}
+
+pub impl Source for RecordList as RecordListSource {
+    ghost list = { λ s. vec-items (s .records) };
+
+    fn count(&self) -> usize {
+        self.records.len()
+    }
+
+    fn at(&self, place: usize) -> Option<Credential> {
+        if place == 0 || place > self.records.len() {
+            return None;
+        }
+        Some(self.records[place - 1])
+    }
+}
+
+pub impl Register for RecordList as RecordListRegister {
+    const CAPACITY: usize = 192;
+
+    ghost limit = { 192 };
+
+    fn most(&self) -> usize {
+        Self::CAPACITY
+    }
+
+    fn publish(&mut self, credential: Credential) -> Result<(), Refusal> {
+        if stands(self, credential) {
+            return Err(Refusal::AlreadyStands);
+        }
+        if self.records.len() == Self::CAPACITY {
+            return Err(Refusal::RegisterFull);
+        }
+        self.records.push_reserved(credential);
+        Ok(())
+    }
+
+    fn withdraw(&mut self, place: usize) -> Result<(), Refusal> {
+        if place == 0 || place > self.records.len() {
+            return Err(Refusal::NoSuchPlace);
+        }
+        let _withdrawn = self.records.remove(place - 1);
+        Ok(())
+    }
+}
