@@ -1,54 +1,63 @@
 -- Credentials are equal where their numbers are, and standing decides membership.
-use Prim.Native.Nat.{ℕ}
-use mathlib.Core.Path.{_≡_, refl, ap}
-use mathlib.Core.Bool.{Bool}
-use mathlib.Core.List.{List}
-use native.Mathlib.Omega.{arith}
-use lib.ListN.{getD}
+use Prim.Native.Nat.{ℕ, zero, suc}
+use mathlib.Core.Path.{_≡_, refl, sym, ap, _∙_}
+use mathlib.Core.List.{List, [], _∷_, map}
 use Rattle.std.specs.Orderings.{Decides}
 use Rattle.std.specs.shelf.Lists.{Has}
 use Rattle.std.proofs.shelf.Equals.{sameBytes-decides}
 use Rattle.std.proofs.shelf.Ways.{decides-by-or, decides-like}
-use Rattle.credential.specs.declared.roles.Role.{Role}
+use Rattle.std.specs.declared.option.Option.{Option}
+use Rattle.std.specs.declared.option.Option.the-variants.{Some, None}
+use Rattle.std.specs.declared.result.Result.{Result}
+use Rattle.std.specs.declared.result.Result.the-variants.{Ok, Err}
+use Rattle.credential.specs.declared.letters.Letter.{Letter}
+use Rattle.credential.specs.declared.letters.Letter.the-variants.{Member, Inclusion, Linked, Intersection, Exclusion}
 use Rattle.credential.specs.declared.credentials.Credential.{Credential}
-use Rattle.credential.specs.declared.credentials.Credential.the-variants.{Member, Inclusion, Linked, Intersection, Exclusion}
-use Rattle.credential.proofs.Ranges.{entity-path, role-name-path}
-use Rattle.register.specs.Standing.{numbersOf, same, stands}
+use Rattle.credential.specs.Refusals.{Named, refused}
+use Rattle.credential.specs.Letters.{rowOf}
+use Rattle.credential.specs.Credentials.{letterOf, fieldsOf, credentialOf}
+use Rattle.credential.proofs.Building.{made-of-fields}
+use Rattle.register.specs.Standing.{numberOf, numbersOf, same, stands}
 
-role-path : (a b : Role) → a .owner .number ≡ b .owner .number → a .name .number ≡ b .name .number → a ≡ b
-role-path a b p q = λ i. record { owner = entity-path (a .owner) (b .owner) p i; name = role-name-path (a .name) (b .name) q i }
+letterAt : ℕ → Letter
+letterAt zero = Member
+letterAt (suc zero) = Inclusion
+letterAt (suc (suc zero)) = Linked
+letterAt (suc (suc (suc zero))) = Intersection
+letterAt (suc (suc (suc (suc n)))) = Exclusion
+
+letter-back : (l : Letter) → letterAt (rowOf l) ≡ l
+unfolding letterAt
+letter-back Member = refl
+letter-back Inclusion = refl
+letter-back Linked = refl
+letter-back Intersection = refl
+letter-back Exclusion = refl
+
+fieldAt : ℕ → Option ℕ
+fieldAt zero = None
+fieldAt (suc n) = Some n
+
+fields-back : (fs : List (Option ℕ)) → map fieldAt (map numberOf fs) ≡ fs
+unfolding fieldAt
+fields-back [] = refl
+fields-back (None ∷ fs) = ap (λ (gs : List (Option ℕ)). None ∷ gs) (fields-back fs)
+fields-back (Some n ∷ fs) = ap (λ (gs : List (Option ℕ)). Some n ∷ gs) (fields-back fs)
+
+-- the credential of its numbers
+back : List ℕ → Result Credential Named
+back [] = Err (refused 4)
+back (l ∷ ns) = credentialOf (letterAt l) (map fieldAt ns)
+
+numbers-back : (c : Credential) → back (numbersOf c) ≡ Ok c
+unfolding back
+numbers-back c =
+    ap (λ (l : Letter). credentialOf l (map fieldAt (map numberOf (fieldsOf c)))) (letter-back (letterOf c))
+    ∙ ap (λ (fs : List (Option ℕ)). credentialOf (letterOf c) fs) (fields-back (fieldsOf c))
+    ∙ made-of-fields c
 
 numbers-path : (c d : Credential) → numbersOf c ≡ numbersOf d → c ≡ d
-numbers-path (Member h d) (Member h′ d′) p =
-    λ i. Member (role-path h h′ (ap (λ (ns : List ℕ). getD ns 1 0) p) (ap (λ (ns : List ℕ). getD ns 2 0) p) i) (entity-path d d′ (ap (λ (ns : List ℕ). getD ns 3 0) p) i)
-numbers-path (Member h d) (Inclusion h′ f′) p = absurd (omega (arith, ap (λ (ns : List ℕ). getD ns 0 0) p))
-numbers-path (Member h d) (Linked h′ s′ t′) p = absurd (omega (arith, ap (λ (ns : List ℕ). getD ns 0 0) p))
-numbers-path (Member h d) (Intersection h′ f′ g′) p = absurd (omega (arith, ap (λ (ns : List ℕ). getD ns 0 0) p))
-numbers-path (Member h d) (Exclusion h′ f′ g′) p = absurd (omega (arith, ap (λ (ns : List ℕ). getD ns 0 0) p))
-numbers-path (Inclusion h f) (Member h′ d′) p = absurd (omega (arith, ap (λ (ns : List ℕ). getD ns 0 0) p))
-numbers-path (Inclusion h f) (Inclusion h′ f′) p =
-    λ i. Inclusion (role-path h h′ (ap (λ (ns : List ℕ). getD ns 1 0) p) (ap (λ (ns : List ℕ). getD ns 2 0) p) i) (role-path f f′ (ap (λ (ns : List ℕ). getD ns 3 0) p) (ap (λ (ns : List ℕ). getD ns 4 0) p) i)
-numbers-path (Inclusion h f) (Linked h′ s′ t′) p = absurd (omega (arith, ap (λ (ns : List ℕ). getD ns 0 0) p))
-numbers-path (Inclusion h f) (Intersection h′ f′ g′) p = absurd (omega (arith, ap (λ (ns : List ℕ). getD ns 0 0) p))
-numbers-path (Inclusion h f) (Exclusion h′ f′ g′) p = absurd (omega (arith, ap (λ (ns : List ℕ). getD ns 0 0) p))
-numbers-path (Linked h s t) (Member h′ d′) p = absurd (omega (arith, ap (λ (ns : List ℕ). getD ns 0 0) p))
-numbers-path (Linked h s t) (Inclusion h′ f′) p = absurd (omega (arith, ap (λ (ns : List ℕ). getD ns 0 0) p))
-numbers-path (Linked h s t) (Linked h′ s′ t′) p =
-    λ i. Linked (role-path h h′ (ap (λ (ns : List ℕ). getD ns 1 0) p) (ap (λ (ns : List ℕ). getD ns 2 0) p) i) (role-name-path s s′ (ap (λ (ns : List ℕ). getD ns 4 0) p) i) (role-name-path t t′ (ap (λ (ns : List ℕ). getD ns 6 0) p) i)
-numbers-path (Linked h s t) (Intersection h′ f′ g′) p = absurd (omega (arith, ap (λ (ns : List ℕ). getD ns 0 0) p))
-numbers-path (Linked h s t) (Exclusion h′ f′ g′) p = absurd (omega (arith, ap (λ (ns : List ℕ). getD ns 0 0) p))
-numbers-path (Intersection h f g) (Member h′ d′) p = absurd (omega (arith, ap (λ (ns : List ℕ). getD ns 0 0) p))
-numbers-path (Intersection h f g) (Inclusion h′ f′) p = absurd (omega (arith, ap (λ (ns : List ℕ). getD ns 0 0) p))
-numbers-path (Intersection h f g) (Linked h′ s′ t′) p = absurd (omega (arith, ap (λ (ns : List ℕ). getD ns 0 0) p))
-numbers-path (Intersection h f g) (Intersection h′ f′ g′) p =
-    λ i. Intersection (role-path h h′ (ap (λ (ns : List ℕ). getD ns 1 0) p) (ap (λ (ns : List ℕ). getD ns 2 0) p) i) (role-path f f′ (ap (λ (ns : List ℕ). getD ns 3 0) p) (ap (λ (ns : List ℕ). getD ns 4 0) p) i) (role-path g g′ (ap (λ (ns : List ℕ). getD ns 5 0) p) (ap (λ (ns : List ℕ). getD ns 6 0) p) i)
-numbers-path (Intersection h f g) (Exclusion h′ f′ g′) p = absurd (omega (arith, ap (λ (ns : List ℕ). getD ns 0 0) p))
-numbers-path (Exclusion h f g) (Member h′ d′) p = absurd (omega (arith, ap (λ (ns : List ℕ). getD ns 0 0) p))
-numbers-path (Exclusion h f g) (Inclusion h′ f′) p = absurd (omega (arith, ap (λ (ns : List ℕ). getD ns 0 0) p))
-numbers-path (Exclusion h f g) (Linked h′ s′ t′) p = absurd (omega (arith, ap (λ (ns : List ℕ). getD ns 0 0) p))
-numbers-path (Exclusion h f g) (Intersection h′ f′ g′) p = absurd (omega (arith, ap (λ (ns : List ℕ). getD ns 0 0) p))
-numbers-path (Exclusion h f g) (Exclusion h′ f′ g′) p =
-    λ i. Exclusion (role-path h h′ (ap (λ (ns : List ℕ). getD ns 1 0) p) (ap (λ (ns : List ℕ). getD ns 2 0) p) i) (role-path f f′ (ap (λ (ns : List ℕ). getD ns 3 0) p) (ap (λ (ns : List ℕ). getD ns 4 0) p) i) (role-path g g′ (ap (λ (ns : List ℕ). getD ns 5 0) p) (ap (λ (ns : List ℕ). getD ns 6 0) p) i)
+numbers-path c d p = let q : _≡_ {A = Result Credential Named} (Ok c) (Ok d) = sym (numbers-back c) ∙ ap back p ∙ numbers-back d in cc
 
 pub same-decides : (c d : Credential) → Decides (same c d) (c ≡ d)
 same-decides c d = decides-like (same c d) (numbers-path c d) (ap numbersOf) (sameBytes-decides (numbersOf c) (numbersOf d))

@@ -1,5 +1,5 @@
 -- Whether a credential stands in a list.
-use Prim.Native.Nat.{ℕ}
+use Prim.Native.Nat.{ℕ, suc}
 use mathlib.Core.Bool.{Bool, false, _||_}
 use mathlib.Core.List.{List, [], _∷_, map}
 use Rattle.std.specs.shelf.Text.{sameBytes}
@@ -9,10 +9,10 @@ use Rattle.credential.specs.declared.credentials.Credential.{Credential}
 use Rattle.credential.specs.Letters.{rowOf}
 use Rattle.credential.specs.Credentials.{letterOf, fieldsOf}
 
--- a field as a number, a blank as 0
+-- a field as a number: a blank as 0, a number as the next
 abbrev pub numberOf : Option ℕ → ℕ
 numberOf None = 0
-numberOf (Some n) = n
+numberOf (Some n) = suc n
 
 -- a credential as numbers: its letter and its fields
 abbrev pub numbersOf : Credential → List ℕ
