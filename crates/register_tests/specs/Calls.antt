@@ -31,7 +31,8 @@ undriven xs = record { answers = []; list = xs }
 abbrev pub driven-by : ℕ → Driven → Call → Driven
 driven-by limit d call = record {
   answers = d .answers ++ numberAnswered (called limit (d .list) call .answer) ∷ [];
-  list = called limit (d .list) call .list }
+  list = called limit (d .list) call .list;
+}
 
 -- what is there after a list of calls
 unfoldable pub driven : ℕ → Driven → List Call → Driven

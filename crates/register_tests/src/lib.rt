@@ -32,7 +32,11 @@ pub fn carry_out<R: Register>(register: &mut R, call: Call) -> Result<(), Refusa
 }
 
 // Carries out the calls in order, and gives for each the number of its refusal, if it was refused.
-pub fn drive<R: Register>(heap: Global, register: &mut R, calls: &[Call]) -> Result<Vec<Option<u8>>, AllocError>
+pub fn drive<R: Register>(
+    heap: Global,
+    register: &mut R,
+    calls: &[Call],
+) -> Result<Vec<Option<u8>>, AllocError>
     ensures answers { λ r. ⌜ made r (λ v. vec-items v ≡ driven (R·Register .limit) (undriven (R·Source .list (now (register .entry)))) (now (calls .entry)) .answers) ⌝ }
     ensures list { λ r. ⌜ Cases r
         (λ _. R·Source .list (now (register .exit)) ≡ driven (R·Register .limit) (undriven (R·Source .list (now (register .entry)))) (now (calls .entry)) .list)
@@ -80,7 +84,10 @@ mod tests {
     use std::test::*;
 
     fn member(owner: u32, name: u32, member: u32) -> Result<Credential, Refusal> {
-        Credential::new(Letter::Member, [Some(owner), Some(name), Some(member), None, None, None])
+        Credential::new(
+            Letter::Member,
+            [Some(owner), Some(name), Some(member), None, None, None],
+        )
     }
 
     // What any register answers to one list of calls, and what it then holds.
@@ -98,7 +105,17 @@ mod tests {
             Call::Publish(a),
         ];
         let answers = drive(heap, register, &calls)?;
-        let expected = [Some(8), None, None, Some(6), None, Some(8), Some(8), None, None];
+        let expected = [
+            Some(8),
+            None,
+            None,
+            Some(6),
+            None,
+            Some(8),
+            Some(8),
+            None,
+            None,
+        ];
         check_eq(answers.as_slice(), &expected)?;
         let list = list(heap, register)?;
         check(list.as_slice() == &[b, c, a])

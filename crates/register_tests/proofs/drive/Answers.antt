@@ -16,9 +16,12 @@ loop-call-holds g c =
 pub loop-call-again : need.loop-call-again
 loop-call-again g c =
     let d : Driven = record { answers = vec-items (c .loop-call .answers); list = g .R·Source .list (c .loop-call .register) } in
-    let e : Driven = record { answers = vec-items (c .push-reserved .last .self); list = g .R·Source .list (c .carry-out-answer .last .register) } in
-    (c .loop-call .inv .0 ∙ driven-more (g .R·Register .limit) (c .args .calls .now) (c .loop-call .call-index) d e _ (c .loop-call-test .taken) (c .call-item .is)
-        (c .carry-out-answer .ensures .answer) (c .number .ensures) (c .push-reserved .ensures .items) (c .carry-out-answer .ensures .list), search needs, search needs)
+    let e : Driven = record { answers = vec-items (c .push-reserved .last .self); list = g .R·Source .list (c .carry-out-answer .last .register) } in (
+      c .loop-call .inv .0 ∙ driven-more (g .R·Register .limit) (c .args .calls .now) (c .loop-call .call-index) d e _ (c .loop-call-test .taken) (c .call-item .is)
+          (c .carry-out-answer .ensures .answer) (c .number .ensures) (c .push-reserved .ensures .items) (c .carry-out-answer .ensures .list),
+      search needs,
+      search needs,
+    )
 
 pub returns : need.returns
 returns g c =

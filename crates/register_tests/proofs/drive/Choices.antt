@@ -8,6 +8,6 @@ use Rattle.register_tests.proofs.drive.Given as given
 abbrev pub Inv-loop-call : given.InvT-loop-call
 Inv-loop-call g l =
     (driven (g .R·Register .limit) (undriven (g .R·Source .list (l .entry .register))) (l .calls)
-        ≡ driven (g .R·Register .limit) (record { answers = vec-items (l .answers); list = g .R·Source .list (l .register) }) (drop (l .call-index) (l .calls)))
+    ≡ driven (g .R·Register .limit) (record { answers = vec-items (l .answers); list = g .R·Source .list (l .register) }) (drop (l .call-index) (l .calls)))
     × (vec-len (l .answers) ≡ l .call-index)
     × (length (l .calls) ≤ vec-cap (l .answers))

@@ -10,10 +10,11 @@ use Rattle.register_tests.proofs.list.Needs.{in-Some·in-Continue-push, in-res
 pub loop-index-again : need.loop-index-again
 loop-index-again g c =
     let xs = g .S·Source .list (c .args .source .now) in
-    elim (c .match-at .came)
-    [ in-Some·in-Continue-push w ↦ listed-more xs (c .loop-index .index) (vec-items (c .loop-index .credentials)) (c .loop-index .inv) _ _
-        (sym (w .in-Some .ensures tt)) (ap vec-items (w .credentials-is) ∙ w .in-Continue-push .ensures tt .items)
-    | in-rest w ↦ absurd (omega (arith, placed-none xs (c .loop-index .index) (sym (w .in-rest .ensures tt)))) ]
+    elim (c .match-at .came) [
+      | in-Some·in-Continue-push w ↦ listed-more xs (c .loop-index .index) (vec-items (c .loop-index .credentials)) (c .loop-index .inv) _ _
+          (sym (w .in-Some .ensures tt)) (ap vec-items (w .credentials-is) ∙ w .in-Continue-push .ensures tt .items)
+      | in-rest w ↦ absurd (omega (arith, placed-none xs (c .loop-index .index) (sym (w .in-rest .ensures tt))))
+    ]
 
 pub returns : need.returns
 returns g c = listed-all (g .S·Source .list (c .args .source .now)) (c .loop-index .index) _ (c .loop-index .inv) (omega arith)
