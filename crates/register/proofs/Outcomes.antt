@@ -1,15 +1,14 @@
 -- What the calls of a register give, by their tests.
-use Prim.Native.Nat.{ℕ, _+_, _-_, _≤_, _<_}
-use mathlib.Core.Path.{_≡_, refl, sym, ap, subst, _∙_}
-use mathlib.Core.Bool.{Bool, true, false, cond, _&&_}
+use Prim.Native.Nat.{ℕ, _-_, _≤_, _<_}
+use mathlib.Core.Path.{_≡_, refl}
+use mathlib.Core.Bool.{true, false, cond, _&&_}
 use mathlib.Core.List.{List, [], _∷_, _++_}
-use native.Mathlib.Omega.{arith}
-use lib.Dec.{eqb, leb}
+use lib.Dec.{leb}
 use lib.ListN.{length, take, drop}
 use borrow.Author.Tests.{eq-eqb, ne-eqb, le-leb, lt-leb}
 use Rattle.credential.specs.declared.credentials.Credential.{Credential}
 use Rattle.register.specs.Standing.{stands}
-use Rattle.register.specs.Registers.{Outcome, taken, refusing, published, withdrawn}
+use Rattle.register.specs.Registers.{taken, refusing, published, withdrawn}
 
 module _ (limit : ℕ) (xs : List Credential) (c : Credential) where
   pub published-standing : stands xs c ≡ true → published limit xs c ≡ refusing 6 xs

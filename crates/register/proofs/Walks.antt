@@ -1,9 +1,8 @@
 -- Going through a source from place to place.
-use Prim.Native.Nat.{ℕ, _+_, _-_, _≤_, _<_}
-use mathlib.Core.Path.{_≡_, refl, sym, ap, subst, _∙_}
+use Prim.Native.Nat.{ℕ, _+_, _≤_}
+use mathlib.Core.Path.{_≡_, refl, sym, ap, _∙_}
 use mathlib.Core.Bool.{Bool, true, false, _||_}
-use mathlib.Core.List.{List, [], _∷_}
-use native.Mathlib.Omega.{arith}
+use mathlib.Core.List.{List}
 use lib.ListN.{length, drop}
 use Rattle.std.proofs.shelf.Lists.{drop-all}
 use Rattle.std.specs.declared.option.Option.the-variants.{Some}
@@ -13,8 +12,8 @@ use Rattle.credential.specs.Refusals.{Named}
 use Rattle.credential.specs.Sources.{placed}
 use Rattle.register.specs.declared.tallies.Tally.{Tally}
 use Rattle.register.specs.Standing.{same, stands}
-use Rattle.register.specs.Registers.{Outcome, published}
-use Rattle.register.specs.Tallies.{counted, Outcomes, publishedAll}
+use Rattle.register.specs.Registers.{published}
+use Rattle.register.specs.Tallies.{counted, publishedAll}
 use Rattle.register.proofs.Places.{placed-drop}
 use Rattle.register.proofs.Equality.{same-decides}
 

@@ -1,7 +1,8 @@
 // A register that keeps its list as records.
 ghost use mathlib.Core.Path.{_≡_};
-ghost use mathlib.Core.List.{[]};
-ghost use Prim.Native.Nat.{_≤_};
+ghost use mathlib.Core.List.{[], _∷_, _++_};
+ghost use Prim.Native.Nat.{_+_, _≤_, _<_};
+ghost use lib.ListN.{take, drop};
 ghost use Rattle.std.specs.Of.Vec.{vec-items, vec-len, vec-cap};
 ghost use Rattle.std.specs.Vec.{made};
 use crate::registers::Register;
@@ -61,7 +62,7 @@ pub impl Register for RecordList as RecordListRegister {
         if self.records.len() == Self::CAPACITY {
             return Err(Refusal::RegisterFull);
         }
-        self.records.push_reserved(credential);
+        put_last(&mut self.records, credential);
         Ok(())
     }
 
@@ -69,7 +70,27 @@ pub impl Register for RecordList as RecordListRegister {
         if place == 0 || place > self.records.len() {
             return Err(Refusal::NoSuchPlace);
         }
-        let _withdrawn = self.records.remove(place - 1);
+        take_out(&mut self.records, place - 1);
         Ok(())
     }
+}
+
+// Puts a credential at the end, in memory that is there.
+fn put_last(records: &mut Vec<Credential>, credential: Credential)
+    requires { ⌜ vec-len (now records) < vec-cap (now records) ⌝ }
+    ensures items { λ _. ⌜ vec-items (now (records .exit)) ≡ vec-items (now (records .entry)) ++ credential ∷ [] ⌝ }
+    ensures len { λ _. ⌜ vec-len (now (records .exit)) ≡ vec-len (now (records .entry)) + 1 ⌝ }
+    ensures capacity { λ _. ⌜ vec-cap (now (records .entry)) ≤ vec-cap (now (records .exit)) ⌝ }
+{
+    records.push_reserved(credential);
+}
+
+// Takes one out, and keeps the order of the others.
+fn take_out(records: &mut Vec<Credential>, index: usize)
+    requires { ⌜ index < vec-len (now records) ⌝ }
+    ensures items { λ _. ⌜ vec-items (now (records .exit)) ≡ take index (vec-items (now (records .entry))) ++ drop (index + 1) (vec-items (now (records .entry))) ⌝ }
+    ensures len { λ _. ⌜ vec-len (now (records .exit)) + 1 ≡ vec-len (now (records .entry)) ⌝ }
+    ensures capacity { λ _. ⌜ vec-cap (now (records .entry)) ≤ vec-cap (now (records .exit)) ⌝ }
+{
+    let _taken = records.remove(index);
 }

@@ -1,8 +1,5 @@
-use Prim.Native.Nat.{_≤_}
-use mathlib.Core.Path.{_≡_, sym, ap, _∙_}
+use mathlib.Core.Path.{sym, ap, _∙_}
 use native.Mathlib.Omega.{arith}
-use lib.ListN.{length}
-use borrow.Author.Needs.{needs}
 use Rattle.std.specs.Of.Vec.{vec-items}
 use Rattle.register.specs.Registers.{Outcome}
 use Rattle.register.proofs.Outcomes.{published-standing, published-full, published-taken}
@@ -21,4 +18,4 @@ returns-then-len-eq-CAPACITY c =
 pub returns : need.returns
 returns c =
     let o = sym (published-taken 192 (vec-items (c .args .self .now .records)) (c .args .credential) (sym (c .if-stands .ensures tt .value)) (λ e. omega (arith, c .args .self .now .records .ok .0))) in
-    record { answer = ap (λ (o : Outcome). o .answer) o; list = c .push-reserved .ensures .items ∙ ap (λ (o : Outcome). o .list) o; within = omega (arith, c .args .self .now .records .ok .0, c .push-reserved .last .self .ok .0) }
+    record { answer = ap (λ (o : Outcome). o .answer) o; list = c .put-last .ensures .items ∙ ap (λ (o : Outcome). o .list) o; within = omega (arith, c .args .self .now .records .ok .0, c .put-last .last .records .ok .0) }

@@ -25,6 +25,6 @@ returns c =
     let p : c .args .place - 1 + 1 ≡ c .args .place = omega arith in
     record {
       answer = ap (λ (o : Outcome). o .answer) o;
-      list = c .remove-withdrawn .ensures .places .2 ∙ ap (λ (k : ℕ). take (c .args .place - 1) xs ++ drop k xs) p ∙ ap (λ (o : Outcome). o .list) o;
-      within = omega (arith, c .args .self .now .records .ok .0, c .remove-withdrawn .last .self .ok .0);
+      list = c .take-out .ensures .items ∙ ap (λ (k : ℕ). take (c .args .place - 1) xs ++ drop k xs) p ∙ ap (λ (o : Outcome). o .list) o;
+      within = omega (arith, c .args .self .now .records .ok .0, c .take-out .last .records .ok .0);
     }
