@@ -13,6 +13,11 @@ use register::Register;
 use std::alloc::AllocError;
 use std::alloc::Global;
 
+pub mod trials;
+
+#[cfg(test)]
+mod tests;
+
 // A call of a register.
 #[derive(Clone, Copy, Debug)]
 pub enum Call {
@@ -71,6 +76,3 @@ pub fn list<S: Source>(heap: Global, source: &S) -> Result<Vec<Credential>, Allo
     }
     Ok(credentials)
 }
-
-#[cfg(test)]
-mod tests;
