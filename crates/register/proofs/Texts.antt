@@ -25,14 +25,14 @@ page-one : (c : Credential) → pageOf (c ∷ []) ≡ lineOf c
 unfolding pageOf
 page-one c = append-nil (lineOf c)
 
--- a text that reads as cs
+-- the text is lawful and reads as cs
 abbrev pub Reads : List ℕ → List Credential → Type 0
-Reads bs cs = (isOk (readPage bs) ≡ true) × (credentialsOf bs ≡ cs) × (length bs ≡ 20 * length cs)
+Reads bs cs = (isOk (readPage bs) ≡ true) × (credentialsOf bs ≡ cs)
 
 page-reads : (bs : List ℕ) (cs : List Credential) → length cs ≤ 256 → bs ≡ pageOf cs → Reads bs cs
 page-reads bs cs h e =
     let r : readPage bs ≡ Ok cs = ap readPage e ∙ page-forth cs h in
-    (ap isOk r, ap listOf r, ap length e ∙ page-length cs)
+    (ap isOk r, ap listOf r)
 
 module _ (bs : List ℕ) (lawful : isOk (readPage bs) ≡ true) where
   pub text-length : length bs ≡ 20 * length (credentialsOf bs)

@@ -1,6 +1,6 @@
 -- What a register answers, and what it holds after each call.
 use Prim.Native.Nat.{ℕ, _-_}
-use mathlib.Core.Bool.{cond, _&&_}
+use mathlib.Core.Bool.{Bool, cond, _&&_}
 use mathlib.Core.List.{List, [], _∷_, _++_}
 use lib.Dec.{eqb, leb}
 use lib.ListN.{length, take, drop}
@@ -15,17 +15,23 @@ pub record Outcome : Type 0 where
   pub answer : Result (Unit {0}) Named
   pub list : List Credential
 
-abbrev pub taken : List Credential → Outcome
-taken xs = record { answer = Ok tt; list = xs }
+-- a refusal leaves the list xs as it was; a call that is taken leaves ys
+abbrev pub becoming : List Credential → List Credential → Result (Unit {0}) Named → Outcome
+becoming xs ys (Ok u) = record { answer = Ok u; list = ys }
+becoming xs ys (Err e) = record { answer = Err e; list = xs }
 
--- a refusal leaves the list as it was
-abbrev pub refusing : ℕ → List Credential → Outcome
-refusing n xs = record { answer = Err (refused n); list = xs }
+-- a credential is refused if it stands, then if the register is full
+abbrev pub admitted : (standing full : Bool) → Result (Unit {0}) Named
+admitted standing full = cond standing (Err (refused 6)) (cond full (Err (refused 7)) (Ok tt))
 
--- publishing c: refused if it stands, then if the register is full; else it is put at the end
+-- publishing c into a register of that capacity puts it at the end
 unfoldable pub published : ℕ → List Credential → Credential → Outcome
-published limit xs c = cond (stands xs c) (refusing 6 xs) (cond (eqb (length xs) limit) (refusing 7 xs) (taken (xs ++ c ∷ [])))
+published limit xs c = becoming xs (xs ++ c ∷ []) (admitted (stands xs c) (eqb (length xs) limit))
 
--- withdrawing the credential at a place from 1: refused outside 1 to the count; else it is taken out
+-- a place is refused outside 1 to the count
+abbrev pub located : (place count : ℕ) → Result (Unit {0}) Named
+located place count = cond (leb 1 place && leb place count) (Ok tt) (Err (refused 8))
+
+-- withdrawing takes out the credential at a place from 1, and keeps the order of the others
 unfoldable pub withdrawn : List Credential → ℕ → Outcome
-withdrawn xs p = cond (leb 1 p && leb p (length xs)) (taken (take (p - 1) xs ++ drop p xs)) (refusing 8 xs)
+withdrawn xs p = becoming xs (take (p - 1) xs ++ drop p xs) (located p (length xs))

@@ -7,6 +7,7 @@ use credential::Credential;
 use credential::Source;
 
 // A source with each exclusion read as an inclusion; all else stays, order and count too.
+#[derive_where(Copy)]
 pub struct Context<'a, S: Source> {
     source: &'a S,
 }

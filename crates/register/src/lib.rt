@@ -9,6 +9,8 @@ pub use contexts::Context;
 pub use page_text::PageText;
 pub use record_list::RecordList;
 pub use registers::Register;
+pub use registers::admit;
+pub use registers::locate;
 pub use registers::stands;
 pub use tallies::Tally;
 pub use tallies::publish_all;

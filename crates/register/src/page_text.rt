@@ -10,6 +10,8 @@ ghost use Rattle.std.specs.Vec.{made};
 ghost use Rattle.page.specs.Lines.{lineOf};
 ghost use Rattle.page.specs.Pages.{readPage, credentialsOf};
 use crate::registers::Register;
+use crate::registers::admit;
+use crate::registers::locate;
 use crate::registers::stands;
 use credential::Credential;
 use credential::Refusal;
@@ -67,20 +69,13 @@ pub impl Register for PageText as PageTextRegister {
     }
 
     fn publish(&mut self, credential: Credential) -> Result<(), Refusal> {
-        if stands(self, credential) {
-            return Err(Refusal::AlreadyStands);
-        }
-        if self.count() == Self::CAPACITY {
-            return Err(Refusal::RegisterFull);
-        }
+        admit(stands(self, credential), self.count() == Self::CAPACITY)?;
         put_line(&mut self.text, credential);
         Ok(())
     }
 
     fn withdraw(&mut self, place: usize) -> Result<(), Refusal> {
-        if place == 0 || place > self.count() {
-            return Err(Refusal::NoSuchPlace);
-        }
+        locate(place, self.count())?;
         take_line(&mut self.text, LINE * (place - 1));
         Ok(())
     }

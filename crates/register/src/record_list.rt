@@ -6,6 +6,8 @@ ghost use lib.ListN.{take, drop};
 ghost use Rattle.std.specs.Of.Vec.{vec-items, vec-len, vec-cap};
 ghost use Rattle.std.specs.Vec.{made};
 use crate::registers::Register;
+use crate::registers::admit;
+use crate::registers::locate;
 use crate::registers::stands;
 use credential::Credential;
 use credential::Refusal;
@@ -56,20 +58,16 @@ pub impl Register for RecordList as RecordListRegister {
     }
 
     fn publish(&mut self, credential: Credential) -> Result<(), Refusal> {
-        if stands(self, credential) {
-            return Err(Refusal::AlreadyStands);
-        }
-        if self.records.len() == Self::CAPACITY {
-            return Err(Refusal::RegisterFull);
-        }
+        admit(
+            stands(self, credential),
+            self.records.len() == Self::CAPACITY,
+        )?;
         put_last(&mut self.records, credential);
         Ok(())
     }
 
     fn withdraw(&mut self, place: usize) -> Result<(), Refusal> {
-        if place == 0 || place > self.records.len() {
-            return Err(Refusal::NoSuchPlace);
-        }
+        locate(place, self.records.len())?;
         take_out(&mut self.records, place - 1);
         Ok(())
     }

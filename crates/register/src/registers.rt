@@ -6,7 +6,7 @@ ghost use Rattle.std.specs.Orderings.{Decides};
 ghost use Rattle.std.specs.shelf.Lists.{Has};
 ghost use Rattle.credential.specs.Refusals.{answered};
 ghost use Rattle.register.specs.Standing.{stands};
-ghost use Rattle.register.specs.Registers.{published, withdrawn};
+ghost use Rattle.register.specs.Registers.{admitted, published, located, withdrawn};
 use credential::Credential;
 use credential::Refusal;
 use credential::Source;
@@ -52,4 +52,28 @@ pub fn stands<S: Source>(source: &S, credential: Credential) -> bool
         }
     }
     false
+}
+
+// Whether a credential is taken: not if it stands, and then not if the register is full.
+pub fn admit(standing: bool, full: bool) -> Result<(), Refusal>
+    ensures { λ r. ⌜ answered r ≡ admitted standing full ⌝ }
+{
+    if standing {
+        return Err(Refusal::AlreadyStands);
+    }
+    if full {
+        return Err(Refusal::RegisterFull);
+    }
+    Ok(())
+}
+
+// Whether a credential stands at a place: only from 1 to the count.
+pub fn locate(place: usize, count: usize) -> Result<(), Refusal>
+    ensures { λ r. ⌜ answered r ≡ located place count ⌝ }
+{
+    if place >= 1 && place <= count {
+        Ok(())
+    } else {
+        Err(Refusal::NoSuchPlace)
+    }
 }

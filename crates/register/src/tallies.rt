@@ -1,6 +1,7 @@
 // Publishing all credentials of a source into a register.
 ghost use mathlib.Core.Path.{_≡_};
 ghost use Prim.Native.Nat.{_+_, _<_};
+ghost use lib.ListN.{length};
 ghost use Rattle.credential.specs.Refusals.{answered};
 ghost use Rattle.register.specs.Tallies.{none, total, counted, publishedAll};
 use crate::registers::Register;
@@ -19,6 +20,7 @@ pub struct Tally {
 pub fn publish_all<R: Register, S: Source>(register: &mut R, source: &S) -> Tally
     ensures tally { λ r. ⌜ r ≡ publishedAll (R·Register .limit) none (R·Source .list (now (register .entry))) (S·Source .list (now (source .entry))) .tally ⌝ }
     ensures list { λ _. ⌜ R·Source .list (now (register .exit)) ≡ publishedAll (R·Register .limit) none (R·Source .list (now (register .entry))) (S·Source .list (now (source .entry))) .list ⌝ }
+    ensures all { λ r. ⌜ total r ≡ length (S·Source .list (now (source .entry))) ⌝ }
 {
     let mut tally = Tally {
         taken: 0,

@@ -13,10 +13,9 @@ use register::Register;
 use std::alloc::AllocError;
 use std::alloc::Global;
 
-pub mod trials;
-
 #[cfg(test)]
 mod tests;
+pub mod trials;
 
 // A call of a register.
 #[derive(Clone, Copy, Debug)]

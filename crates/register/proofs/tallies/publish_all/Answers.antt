@@ -28,4 +28,4 @@ pub returns : need.returns
 returns g c =
     let xs = g .S·Source .list (c .args .source .now) in
     let o = c .loop-index .inv .0 ∙ published-past xs (c .loop-index .index) (g .R·Register .limit) (c .loop-index .tally) (g .R·Source .list (c .loop-index .register)) (omega arith) in
-    record { tally = sym (ap (λ (o : Outcomes). o .tally) o); list = sym (ap (λ (o : Outcomes). o .list) o) }
+    record { tally = sym (ap (λ (o : Outcomes). o .tally) o); list = sym (ap (λ (o : Outcomes). o .list) o); all = omega arith }

@@ -1,4 +1,3 @@
-use Prim.Native.Nat.{_≤_}
 use mathlib.Core.Path.{_≡_}
 use lib.ListN.{drop}
 use Rattle.register.specs.Tallies.{none, total, publishedAll}
@@ -8,4 +7,4 @@ abbrev pub Inv-loop-index : given.InvT-loop-index
 Inv-loop-index g l =
     (publishedAll (g .R·Register .limit) none (g .R·Source .list (l .entry .register)) (g .S·Source .list (l .source))
     ≡ publishedAll (g .R·Register .limit) (l .tally) (g .R·Source .list (l .register)) (drop (l .index) (g .S·Source .list (l .source))))
-    × (total (l .tally) ≤ l .index)
+    × (total (l .tally) ≡ l .index)
