@@ -58,16 +58,13 @@ pub impl Register for RecordList as RecordListRegister {
     }
 
     fn publish(&mut self, credential: Credential) -> Result<(), Refusal> {
-        admit(
-            stands(self, credential),
-            self.records.len() == Self::CAPACITY,
-        )?;
+        admit(stands(self, credential), self.count() == Self::CAPACITY)?;
         put_last(&mut self.records, credential);
         Ok(())
     }
 
     fn withdraw(&mut self, place: usize) -> Result<(), Refusal> {
-        locate(place, self.records.len())?;
+        locate(place, self.count())?;
         take_out(&mut self.records, place - 1);
         Ok(())
     }

@@ -14,8 +14,8 @@ use Rattle.register.proofs.record_list.RecordListRegister.withdraw.Needs as ne
 
 pub returns-in-Break-locate : need.returns-in-Break-locate
 returns-in-Break-locate c =
-    let o = sym (withdrawn-is (vec-items (c .args .self .now .records)) (c .args .place) (c .len .result)
-    (c .in-Break-locate .ensures tt) (c .len .ensures ∙ c .args .self .now .records .ok .0)) in
+    let o = sym (withdrawn-is (vec-items (c .args .self .now .records)) (c .args .place) (c .count .result)
+    (c .in-Break-locate .ensures tt) (c .count .ensures .value)) in
     let p = err-from-errBy (c .from-residual .result) (c .from-residual .ensures .1) in
     record {
       answer = ap answered (p .1) ∙ ap (λ (e : Refusal). Err (named e)) (p .2) ∙ ap (λ (o : Outcome). o .answer) o;
@@ -24,16 +24,16 @@ returns-in-Break-locate c =
     }
 
 pub take-out-requires : need.take-out-requires
-take-out-requires c κs = let w = located-within (c .args .place) (c .len .result) (c .in-Continue-locate .ensures tt) in omega arith
+take-out-requires c κs = let w = located-within (c .args .place) (c .count .result) (c .in-Continue-locate .ensures tt) in omega (arith, c .args .self .now .records .ok .0)
 
 pub returns : need.returns
 returns c =
     let xs = vec-items (c .args .self .now .records) in
-    let w = located-within (c .args .place) (c .len .result) (c .in-Continue-locate .ensures tt) in
+    let w = located-within (c .args .place) (c .count .result) (c .in-Continue-locate .ensures tt) in
     let p : c .args .place - 1 + 1 ≡ c .args .place = omega arith in
-    let o = sym (withdrawn-is xs (c .args .place) (c .len .result) (c .in-Continue-locate .ensures tt) (c .len .ensures ∙ c .args .self .now .records .ok .0)) in
+    let o = sym (withdrawn-is xs (c .args .place) (c .count .result) (c .in-Continue-locate .ensures tt) (c .count .ensures .value)) in
     record {
       answer = ap (λ (o : Outcome). o .answer) o;
       list = c .take-out .ensures .items ∙ ap (λ (k : ℕ). take (c .args .place - 1) xs ++ drop k xs) p ∙ ap (λ (o : Outcome). o .list) o;
-      within = omega (arith, c .take-out .last .records .ok .0);
+      within = omega (arith, c .args .self .now .records .ok .0, c .take-out .last .records .ok .0);
     }
