@@ -1,0 +1,5 @@
+pub mod Places
+pub mod Equality
+pub mod Outcomes
+pub mod Walks
+pub mod Texts

@@ -1,0 +1,4 @@
+pub mod Standing
+pub mod Registers
+pub mod Tallies
+pub mod Contexts
