@@ -1,0 +1,40 @@
+// The check of a certificate against any source's credentials.
+ghost use mathlib.Core.Path.{_≡_};
+ghost use Rattle.std.specs.declared.result.Result.the-variants.{Ok};
+ghost use Rattle.credential.specs.Refusals.{answered};
+ghost use Rattle.model.specs.Tables.{table, Certifies};
+ghost use Rattle.checker.specs.Checks.{Checked, One-answer};
+use credential::Credential;
+use credential::Refusal;
+use credential::Source;
+use entries::check_entries;
+use entries::first_unlawful;
+use model::filler;
+use model::load;
+
+pub mod entries;
+pub mod literals;
+pub mod wants;
+
+// Accepts exactly the certificates of the credentials, and else refuses the first place that breaks a rule.
+fn check_list(credentials: &[Credential], verdicts: &[u8], numbers: &[u16]) -> Result<(), Refusal>
+    ensures { λ r. ⌜ Checked (now (credentials .entry)) (table (now (verdicts .entry)) (now (numbers .entry))) (answered r) ⌝ }
+{
+    if verdicts.len() != 16384 || numbers.len() != 16384 {
+        return Err(Refusal::WrongLength);
+    }
+    if let Some(place) = first_unlawful(verdicts, numbers) {
+        return Err(Refusal::EntryUnlawful { place });
+    }
+    check_entries(credentials, verdicts, numbers)
+}
+
+// Accepts exactly the certificates of the source's credentials, and else refuses the first place that breaks a rule.
+pub fn check<S: Source>(source: &S, verdicts: &[u8], numbers: &[u16]) -> Result<(), Refusal>
+    ensures says { λ r. ⌜ Checked (S·Source .list (now (source .entry))) (table (now (verdicts .entry)) (now (numbers .entry))) (answered r) ⌝ }
+    ensures alone { λ _. ⌜ One-answer ⌝ }
+{
+    let mut all = [filler(); 256];
+    let count = load(source, &mut all);
+    check_list(&all[0..count], verdicts, numbers)
+}
