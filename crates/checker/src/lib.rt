@@ -5,6 +5,7 @@ ghost use Rattle.credential.specs.Refusals.{answered};
 ghost use Rattle.model.specs.Tables.{table, Certifies};
 ghost use Rattle.checker.specs.Checks.{Checked, One-answer};
 use credential::Credential;
+use credential::Membership;
 use credential::Refusal;
 use credential::Source;
 use entries::check_entries;
@@ -20,7 +21,7 @@ pub mod wants;
 fn check_list(credentials: &[Credential], verdicts: &[u8], numbers: &[u16]) -> Result<(), Refusal>
     ensures { λ r. ⌜ Checked (now (credentials .entry)) (table (now (verdicts .entry)) (now (numbers .entry))) (answered r) ⌝ }
 {
-    if verdicts.len() != 16384 || numbers.len() != 16384 {
+    if verdicts.len() != Membership::COUNT || numbers.len() != Membership::COUNT {
         return Err(Refusal::WrongLength);
     }
     if let Some(place) = first_unlawful(verdicts, numbers) {
