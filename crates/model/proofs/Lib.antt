@@ -1,7 +1,9 @@
 pub mod Bodies
 pub mod Growth
+pub mod Fixpoints
 pub mod Soundness
 pub mod Leastness
+pub mod Order
 pub mod Any
 pub mod Grounds
 pub mod Places

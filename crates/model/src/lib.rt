@@ -1,5 +1,5 @@
-// The well-founded model of a list of credentials, and the theorems about it.
-ghost use Rattle.model.specs.Theorems.{Stages-grow, Consistent, Stays-still, Sound, Least-certifies, Above-least, Order-free, One-least, Still-by-numbers, Agreement};
+// The well-founded model of a list of credentials: what it is and what holds of it stand in specs/.
+ghost use Rattle.model.specs.Theorems.{Stages-grow, First-still-is-the-model, Model-is-the-least-fixed-point, False-is-the-greatest-unfounded-set, Nothing-is-true-and-false, One-verdict-each, Certificates-show-the-model, Least-certificate-certifies, One-least-certificate, No-certificate-below-the-least, Order-does-not-matter};
 
 pub mod entities;
 pub mod loading;
@@ -8,20 +8,18 @@ pub use entities::entity_of_bit;
 pub use loading::filler;
 pub use loading::load;
 
-pub fn stages_hold() -> u8
-    ensures { λ _. ⌜ Stages-grow ⌝ ∗ ⌜ Consistent ⌝ ∗ ⌜ Stays-still ⌝ ∗ ⌜ Still-by-numbers ⌝ }
-{
-    0
-}
-
-pub fn certificates_hold() -> u8
-    ensures { λ _. ⌜ Sound ⌝ ∗ ⌜ Least-certifies ⌝ ∗ ⌜ Above-least ⌝ ∗ ⌜ Order-free ⌝ ∗ ⌜ One-least ⌝ }
-{
-    0
-}
-
-pub fn holders_agree() -> u8
-    ensures { λ _. ⌜ Agreement ⌝ }
+pub fn theorems() -> u8
+    ensures a { λ _. ⌜ Stages-grow ⌝ }
+    ensures b { λ _. ⌜ First-still-is-the-model ⌝ }
+    ensures c { λ _. ⌜ Model-is-the-least-fixed-point ⌝ }
+    ensures d { λ _. ⌜ False-is-the-greatest-unfounded-set ⌝ }
+    ensures e { λ _. ⌜ Nothing-is-true-and-false ⌝ }
+    ensures f { λ _. ⌜ One-verdict-each ⌝ }
+    ensures g { λ _. ⌜ Certificates-show-the-model ⌝ }
+    ensures h { λ _. ⌜ Least-certificate-certifies ⌝ }
+    ensures i { λ _. ⌜ One-least-certificate ⌝ }
+    ensures j { λ _. ⌜ No-certificate-below-the-least ⌝ }
+    ensures k { λ _. ⌜ Order-does-not-matter ⌝ }
 {
     0
 }
