@@ -1,4 +1,4 @@
--- A table has one answer.
+-- A table has one answer, whatever the order of the credentials.
 use Prim.Native.Nat.{ℕ, _<_}
 use mathlib.Core.Path.{_≡_, refl, sym, ap, _∙_, subst}
 use mathlib.Core.List.{List}
@@ -12,8 +12,13 @@ use Rattle.credential.specs.Refusals.{Named, refused, refused-at, refused-entry
 use Rattle.credential.specs.declared.memberships.Membership.{Membership}
 use Rattle.credential.specs.declared.credentials.Credential.{Credential}
 use Rattle.model.specs.Tables.{Table, Sized, Is-T, Is-F, Is-U, No-true-clause, Certifies}
+use Rattle.model.specs.Clauses.{Body, Clause}
+use Rattle.model.specs.Theorems.{Same-members}
+use Rattle.model.proofs.Soundness.{certificates-show-the-model}
+use Rattle.model.proofs.Leastness.{least-certificate-certifies, no-certificate-below-the-least}
+use Rattle.model.proofs.Order.{carry, flip, order-does-not-matter}
 use Rattle.model.proofs.Places.{same-place}
-use Rattle.checker.specs.Checks.{Unlawful, Meets, Breaks, Broken, Checked, One-answer}
+use Rattle.checker.specs.Checks.{Unlawful, Meets, Breaks, Broken, Checked, One-answer, Accepted-is-the-model, Certificates-accepted, Same-answer}
 
 module _ (creds : List Credential) (t : Table) where
   module _ (m : Membership) where
@@ -106,3 +111,48 @@ one-answer creds t (Err (refused-entry n p)) (Err (refused-at k l c)) a b = absu
 one-answer creds t (Err (refused-entry n p)) (Err (refused-entry k q)) a b =
     let e = one-entry creds t n p k q a b in
     ap (λ (i : ℕ). Err (refused-entry i p)) (e .0) ∙ ap (λ (i : ℕ). Err (refused-entry k i)) (e .1)
+
+pub accepted-is-the-model : (creds : List Credential) (t : Table) (r : Result (Unit {0}) Named) → Checked creds t r → Accepted-is-the-model creds t r
+accepted-is-the-model creds t r c e =
+    let k : Certifies creds t = subst (Checked creds t) e c in
+    (certificates-show-the-model creds t k, λ least l. no-certificate-below-the-least creds least t l k)
+
+pub certificates-accepted : (creds : List Credential) (t : Table) (r : Result (Unit {0}) Named) → Checked creds t r → Certificates-accepted creds t r
+certificates-accepted creds t r c = (
+  λ k. one-answer creds t r (Ok tt) c k,
+  λ l. one-answer creds t r (Ok tt) c (least-certificate-certifies creds t l),
+)
+
+-- the rules, for the same credentials in another order
+module _ (creds others : List Credential) (same : Same-members creds others) (t : Table) (m : Membership) where
+  to : (o : Body) → Clause creds m o → Clause others m o
+  to o = carry creds others same m o
+
+  from : (o : Body) → Clause others m o → Clause creds m o
+  from o = carry others creds (flip creds others same) m o
+
+  meets : Meets creds t m → Meets others t m
+  meets k = record {
+    if-T = λ e. let c = k .if-T e in (c .0, to (c .0) (c .1), c .2, c .3);
+    if-F = λ e o cl. k .if-F e o (from o cl);
+    if-U = λ e. let c = k .if-U e in ((λ o cl. c .0 o (from o cl)), (c .1 .0, to (c .1 .0) (c .1 .1), c .1 .2, c .1 .3));
+  }
+
+  breaks : (n : ℕ) → Breaks creds t n m → Breaks others t n m
+  breaks n (inl x) = inl (x .0, x .1, λ c. x .2 (c .0, from (c .0) (c .1), c .2, c .3))
+  breaks n (inr (inl x)) = inr (inl (x .0, x .1, λ c. x .2 (λ o cl. c o (to o cl))))
+  breaks n (inr (inr (inl x))) = inr (inr (inl (x .0, x .1, λ c. x .2 (λ o cl. c o (to o cl)))))
+  breaks n (inr (inr (inr x))) = inr (inr (inr (x .0, x .1, (λ o cl. x .2 o (from o cl)), λ c. x .3 (c .0, from (c .0) (c .1), c .2, c .3))))
+
+pub same-answer : (creds : List Credential) (t : Table) (r : Result (Unit {0}) Named) → Checked creds t r → Same-answer creds t r
+same-answer creds t (Ok u) c others same = order-does-not-matter creds others same .3 t .0 c
+same-answer creds t (Err (refused n)) c others same = c
+same-answer creds t (Err (refused-at n l k)) c others same = c
+same-answer creds t (Err (refused-entry n p)) (inl x) others same = inl x
+same-answer creds t (Err (refused-entry n p)) (inr x) others same =
+    inr (record {
+      sizes = x .sizes;
+      lawful = x .lawful;
+      before = λ m l. meets creds others same t m (x .before m l);
+      there = (x .there .0, x .there .1, breaks creds others same t (x .there .0) n (x .there .2));
+    })

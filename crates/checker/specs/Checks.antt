@@ -1,5 +1,5 @@
 -- What a check answers.
-use Prim.Native.Nat.{ℕ, _<_}
+use Prim.Native.Nat.{ℕ, _≤_, _<_}
 use mathlib.Core.Path.{_≡_}
 use mathlib.Core.List.{List}
 use mathlib.Core.Logic.{_⊎_}
@@ -10,7 +10,8 @@ use Rattle.credential.specs.Memberships.{place}
 use Rattle.credential.specs.Refusals.{Named, refused, refused-at, refused-entry}
 use Rattle.credential.specs.declared.memberships.Membership.{Membership}
 use Rattle.credential.specs.declared.credentials.Credential.{Credential}
-use Rattle.model.specs.Tables.{Table, Sized, Lawful, Is-T, Is-F, Is-U, T-clause, F-clauses, No-true-clause, U-clause, Certifies}
+use Rattle.model.specs.Tables.{Table, Sized, Lawful, Is-T, Is-F, Is-U, T-clause, F-clauses, No-true-clause, U-clause, verdict, number, Certifies, Least}
+use Rattle.model.specs.Theorems.{Shows-the-model, Same-members}
 
 -- the first unlawful entry is at p
 pub record Unlawful (t : Table) (p : ℕ) : Type 0 where
@@ -47,9 +48,23 @@ Checked creds t (Err (refused n)) = (n ≡ 10) × ¬ (Sized t)
 Checked creds t (Err (refused-at n line column)) = ⊥
 Checked creds t (Err (refused-entry n p)) = ((n ≡ 11) × Unlawful t p) ⊎ Broken creds t n p
 
--- a table has one answer
+-- a table has one answer, and the same for the same credentials in another order
 abbrev pub One-answer : Type 0
 One-answer = (creds : List Credential) (t : Table) (r s : Result (Unit {0}) Named) → Checked creds t r → Checked creds t s → r ≡ s
+
+abbrev pub Same-answer : List Credential → Table → Result (Unit {0}) Named → Type 0
+Same-answer creds t r = (others : List Credential) → Same-members creds others → Checked others t r
+
+-- an accepted table has the model's verdict at every place, and no number below the least certificate's
+abbrev pub Accepted-is-the-model : List Credential → Table → Result (Unit {0}) Named → Type 0
+Accepted-is-the-model creds t r =
+    r ≡ Ok tt
+    → Shows-the-model creds t
+    × ((least : Table) → Least creds least → (m : Membership) → (verdict t m ≡ verdict least m) × (number least m ≤ number t m))
+
+-- every certificate is accepted, the least one among them
+abbrev pub Certificates-accepted : List Credential → Table → Result (Unit {0}) Named → Type 0
+Certificates-accepted creds t r = (Certifies creds t → r ≡ Ok tt) × (Least creds t → r ≡ Ok tt)
 
 -- f finds nothing at any membership, or says e at the first by place where it does
 abbrev pub Walked : (Membership → Result (Unit {0}) Named) → Result (Unit {0}) Named → Type 0

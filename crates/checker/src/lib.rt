@@ -1,9 +1,7 @@
 // The check of a certificate against any source's credentials.
-ghost use mathlib.Core.Path.{_≡_};
-ghost use Rattle.std.specs.declared.result.Result.the-variants.{Ok};
 ghost use Rattle.credential.specs.Refusals.{answered};
-ghost use Rattle.model.specs.Tables.{table, Certifies};
-ghost use Rattle.checker.specs.Checks.{Checked, One-answer};
+ghost use Rattle.model.specs.Tables.{table};
+ghost use Rattle.checker.specs.Checks.{Checked, One-answer, Accepted-is-the-model, Certificates-accepted, Same-answer};
 use credential::Credential;
 use credential::Membership;
 use credential::Refusal;
@@ -34,6 +32,9 @@ fn check_list(credentials: &[Credential], verdicts: &[u8], numbers: &[u16]) -> R
 pub fn check<S: Source>(source: &S, verdicts: &[u8], numbers: &[u16]) -> Result<(), Refusal>
     ensures says { λ r. ⌜ Checked (S·Source .list (now (source .entry))) (table (now (verdicts .entry)) (now (numbers .entry))) (answered r) ⌝ }
     ensures alone { λ _. ⌜ One-answer ⌝ }
+    ensures sound { λ r. ⌜ Accepted-is-the-model (S·Source .list (now (source .entry))) (table (now (verdicts .entry)) (now (numbers .entry))) (answered r) ⌝ }
+    ensures complete { λ r. ⌜ Certificates-accepted (S·Source .list (now (source .entry))) (table (now (verdicts .entry)) (now (numbers .entry))) (answered r) ⌝ }
+    ensures order { λ r. ⌜ Same-answer (S·Source .list (now (source .entry))) (table (now (verdicts .entry)) (now (numbers .entry))) (answered r) ⌝ }
 {
     let mut all = [filler(); 256];
     let count = load(source, &mut all);

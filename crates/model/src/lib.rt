@@ -1,5 +1,5 @@
 // The well-founded model of a list of credentials: what it is and what holds of it stand in specs/.
-ghost use Rattle.model.specs.Theorems.{Stages-grow, First-still-is-the-model, Model-is-the-least-fixed-point, False-is-the-greatest-unfounded-set, Nothing-is-true-and-false, One-verdict-each, Certificates-show-the-model, Least-certificate-certifies, One-least-certificate, No-certificate-below-the-least, Order-does-not-matter};
+ghost use Rattle.model.specs.Theorems.{Stages-grow, First-still-is-the-model, Model-is-the-least-fixed-point, False-is-the-greatest-unfounded-set, Nothing-is-true-and-false, Certificates-decide, Certificates-show-the-model, Least-certificate-certifies, One-least-certificate, No-certificate-below-the-least, Order-does-not-matter};
 
 pub mod entities;
 pub mod loading;
@@ -14,7 +14,7 @@ pub fn theorems() -> u8
     ensures c { λ _. ⌜ Model-is-the-least-fixed-point ⌝ }
     ensures d { λ _. ⌜ False-is-the-greatest-unfounded-set ⌝ }
     ensures e { λ _. ⌜ Nothing-is-true-and-false ⌝ }
-    ensures f { λ _. ⌜ One-verdict-each ⌝ }
+    ensures f { λ _. ⌜ Certificates-decide ⌝ }
     ensures g { λ _. ⌜ Certificates-show-the-model ⌝ }
     ensures h { λ _. ⌜ Least-certificate-certifies ⌝ }
     ensures i { λ _. ⌜ One-least-certificate ⌝ }
