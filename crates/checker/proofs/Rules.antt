@@ -1,5 +1,5 @@
 -- The tests of a check, and the rules of a table.
-use Prim.Native.Nat.{ℕ, _+_, _≤_, _<_}
+use Prim.Native.Nat.{ℕ, _+_, _<_}
 use mathlib.Core.Path.{_≡_, refl, sym, ap, _∙_, subst}
 use mathlib.Core.Bool.{Bool, true, false, _&&_, _||_}
 use mathlib.Core.List.{List}
@@ -17,8 +17,7 @@ use Rattle.credential.specs.declared.roles.Role.{Role}
 use Rattle.credential.specs.declared.memberships.Membership.{Membership}
 use Rattle.credential.specs.declared.credentials.Credential.{Credential}
 use Rattle.credential.specs.declared.credentials.Credential.the-variants.{Linked}
-use Rattle.model.specs.Clauses.{Body, Clause}
-use Rattle.model.specs.Tables.{Table, table, Sized, verdict, number, Is-T, Is-F, Is-U, Lawful, T-clause, F-clauses, No-true-clause, U-clause, Certifies}
+use Rattle.model.specs.Tables.{Table, table, verdict, number, Is-T, Is-F, Is-U, Lawful, T-clause, F-clauses, No-true-clause, U-clause}
 use Rattle.model.specs.Grounds.{any, everyone, passes, placeOf}
 use Rattle.model.proofs.Any.{linked-bodies}
 use Rattle.model.proofs.Bodies.{every-map, some-map, if-map, has-map}
@@ -27,7 +26,7 @@ use Rattle.model.proofs.Places.{at-place, place-below, same-place}
 use Rattle.checker.specs.declared.wants.Want.{Want}
 use Rattle.checker.specs.declared.wants.Want.the-variants.{Proved, Unrefuted, AllTrue, Possible}
 use Rattle.checker.specs.Rules.{lawfulAt, posAt, negAt, serves, asked, entryRefusal}
-use Rattle.checker.specs.Checks.{Unlawful, Meets, Breaks, Broken, Checked, Walked}
+use Rattle.checker.specs.Checks.{Unlawful, Meets, Breaks, Checked, Walked}
 
 pub linked-serves : (w : Want) (n : ℕ) (vs ms : List ℕ) (m : Membership) (H : Role) (S U : RoleName)
     → (eqb (H .owner .number) (m .role .owner .number) && eqb (H .name .number) (m .role .name .number)) ≡ true

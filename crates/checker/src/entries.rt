@@ -2,12 +2,11 @@
 ghost use mathlib.Core.Path.{_≡_};
 ghost use mathlib.Core.Bool.{true, false};
 ghost use Prim.Native.Nat.{ℕ, _<_};
-ghost use lib.ListN.{length, getD};
+ghost use lib.ListN.{length};
 ghost use Rattle.std.specs.Options.{Cases as BySome};
 ghost use Rattle.credential.specs.Memberships.{place};
 ghost use Rattle.credential.specs.Refusals.{answered};
-ghost use Rattle.model.specs.Grounds.{any};
-ghost use Rattle.checker.specs.Rules.{lawful, lawfulAt, serves, asked, entryRefusal};
+ghost use Rattle.checker.specs.Rules.{lawful, lawfulAt, asked, entryRefusal};
 ghost use Rattle.checker.specs.Checks.{Walked};
 use crate::literals::credential_serves;
 use crate::wants::Want;

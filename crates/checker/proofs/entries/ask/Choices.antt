@@ -1,6 +1,5 @@
 use mathlib.Core.Path.{_≡_}
-use lib.ListN.{drop, getD}
-use Rattle.credential.specs.Memberships.{place}
+use lib.ListN.{drop}
 use Rattle.model.specs.Grounds.{any}
 use Rattle.checker.specs.Rules.{serves}
 use Rattle.checker.proofs.entries.ask.Given as given
