@@ -1,4 +1,6 @@
 -- The worked cases hold, each by tests that antt computes.
+use mathlib.Core.Path.{_≡_, refl, sym, ap, _∙_}
+use native.Mathlib.Omega.{arith}
 use mathlib.Core.List.{List, [], _∷_}
 use mathlib.Core.Logic.{inr}
 use Prim.Native.Nat.{ℕ, zero, suc}
@@ -6,9 +8,13 @@ use lib.ListN.{take, drop}
 use lib.Dec.{T, leb, leb→le}
 use Rattle.credential.specs.declared.memberships.Membership.{Membership}
 use Rattle.credential.specs.declared.credentials.Credential.{Credential}
+use Rattle.page.specs.Numerals.{numeral, lead}
+use Rattle.page.specs.Lines.{fieldsText}
+use Rattle.page.specs.Pages.{readPage, pageOf}
+use Rattle.page.proofs.RoundTrip.{page-forth}
 use Rattle.model.proofs.Places.{member-at}
 use Rattle.cases.specs.Sparse.{Row, whole}
-use Rattle.cases.specs.Cases.{Expected, is-least, is-refused, Case, cases, Meets-expected, All-hold, Cases-hold}
+use Rattle.cases.specs.Cases.{Expected, is-least, is-refused, Case, cases, circle, circle-page, Meets-expected, All-hold, Cases-hold}
 use Rattle.cases.proofs.Rules.{lawful-test}
 use Rattle.cases.proofs.Whole.{v, n, everywhere, entry-test, before-test, breaks-test, least-by-test, refused-by-test}
 
@@ -49,5 +55,10 @@ front-half = (tt, ((tt, tt, tt, tt), ((tt, tt, tt, tt), ((tt, tt, tt, tt), tt)))
 back-half : All-pass (drop 4 cases)
 back-half = (tt, (tt, (tt, ((tt, tt, tt, tt), tt))))
 
+-- the page is what the credentials are written as
+written : pageOf circle ≡ circle-page
+unfolding pageOf fieldsText numeral lead
+written = refl
+
 pub cases-hold : Cases-hold
-cases-hold = all-hold cases (halves 4 cases front-half back-half)
+cases-hold = (sym (ap readPage written) ∙ page-forth circle (omega arith), all-hold cases (halves 4 cases front-half back-half))

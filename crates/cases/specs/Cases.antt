@@ -1,5 +1,7 @@
 -- Worked cases: credentials with their least certificate, and tables that are refused.
-use mathlib.Core.List.{List, [], _∷_}
+use mathlib.Core.Path.{_≡_}
+use mathlib.Core.List.{List, [], _∷_, _++_}
+use lib.Chars.{codes}
 use Prim.Native.Nat.{ℕ, _≤_}
 use lib.Dec.{T, leb, lit≤}
 use Rattle.credential.specs.declared.numbers.Entity.{Entity}
@@ -7,8 +9,9 @@ use Rattle.credential.specs.declared.numbers.RoleName.{RoleName}
 use Rattle.credential.specs.declared.roles.Role.{Role}
 use Rattle.credential.specs.declared.credentials.Credential.{Credential}
 use Rattle.credential.specs.declared.credentials.Credential.the-variants.{Member, Inclusion, Exclusion}
-use Rattle.std.specs.declared.result.Result.the-variants.{Err}
+use Rattle.std.specs.declared.result.Result.the-variants.{Ok, Err}
 use Rattle.credential.specs.Refusals.{refused-entry}
+use Rattle.page.specs.Pages.{readPage}
 use Rattle.checker.specs.Checks.{Checked}
 use Rattle.model.specs.Tables.{Table, Least}
 use Rattle.cases.specs.Sparse.{Row, row, whole}
@@ -63,6 +66,10 @@ pub record Case : Type 0 where
 abbrev pub circle : List Credential
 circle = Exclusion (e1 · r1) (e2 · r1) (e3 · r1) ∷ Exclusion (e3 · r1) (e2 · r1) (e1 · r1) ∷ Member (e2 · r1) e4 ∷ []
 
+-- the first as a page
+abbrev pub circle-page : List ℕ
+circle-page = codes "X  1  1  2  1  3  1" ++ (10 ∷ (codes "X  3  1  2  1  1  1" ++ (10 ∷ (codes "M  2  1  4         " ++ (10 ∷ [])))))
+
 abbrev pub self-excluding : List Credential
 self-excluding = Exclusion (e1 · r1) (e1 · r2) (e1 · r1) ∷ Member (e1 · r2) e5 ∷ Inclusion (e1 · r3) (e1 · r1) ∷ []
 
@@ -95,5 +102,6 @@ abbrev pub All-hold : List Case → Type 0
 All-hold [] = Unit {0}
 All-hold (c ∷ cs) = Meets-expected (c .creds) (whole (c .rows)) (c .expected) × All-hold cs
 
+-- the page has these credentials, and every case holds
 abbrev pub Cases-hold : Type 0
-Cases-hold = All-hold cases
+Cases-hold = (readPage circle-page ≡ Ok circle) × All-hold cases
