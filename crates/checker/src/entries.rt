@@ -98,8 +98,8 @@ pub(crate) fn check_entries(
     requires { ⌜ length (now verdicts) ≡ 16384 ⌝ ∗ ⌜ length (now numbers) ≡ 16384 ⌝ }
     ensures { λ x. ⌜ Walked (entryRefusal (now (credentials .entry)) (now (verdicts .entry)) (now (numbers .entry))) (answered x) ⌝ }
 {
-    for p in 0..Membership::COUNT {
-        let Some(m) = Membership::at(p) else {
+    for index in 0..Membership::COUNT {
+        let Some(m) = Membership::at(index) else {
             return Ok(());
         };
         if let Err(refusal) = check_entry(credentials, verdicts, numbers, m) {

@@ -8,7 +8,6 @@ use credential::Refusal;
 use credential::Source;
 use entries::check_entries;
 use entries::first_unlawful;
-use model::filler;
 use model::load;
 
 pub mod entries;
@@ -36,7 +35,6 @@ pub fn check<S: Source>(source: &S, verdicts: &[u8], numbers: &[u16]) -> Result<
     ensures complete { λ r. ⌜ Certificates-accepted (S·Source .list (now (source .entry))) (table (now (verdicts .entry)) (now (numbers .entry))) (answered r) ⌝ }
     ensures order { λ r. ⌜ Same-answer (S·Source .list (now (source .entry))) (table (now (verdicts .entry)) (now (numbers .entry))) (answered r) ⌝ }
 {
-    let mut all = [filler(); 256];
-    let count = load(source, &mut all);
-    check_list(&all[0..count], verdicts, numbers)
+    let credentials = load(source);
+    check_list(credentials.list(), verdicts, numbers)
 }

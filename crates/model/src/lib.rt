@@ -3,5 +3,5 @@ pub mod entities;
 pub mod loading;
 
 pub use entities::entity_of_bit;
-pub use loading::filler;
+pub use loading::Loaded;
 pub use loading::load;

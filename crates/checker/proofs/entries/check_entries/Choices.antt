@@ -6,5 +6,5 @@ use Rattle.credential.specs.declared.memberships.Membership.{Membership}
 use Rattle.checker.specs.Rules.{entryRefusal}
 use Rattle.checker.proofs.entries.check_entries.Given as given
 
-abbrev pub Inv-loop-p : given.InvT-loop-p
-Inv-loop-p l = (k : Membership) → place k < l .p → entryRefusal (l .credentials) (l .verdicts) (l .numbers) k ≡ Ok tt
+abbrev pub Inv-loop-index : given.InvT-loop-index
+Inv-loop-index l = (k : Membership) → place k < l .index → entryRefusal (l .credentials) (l .verdicts) (l .numbers) k ≡ Ok tt
