@@ -1,6 +1,7 @@
 // The check of a certificate against any source's credentials.
 ghost use Rattle.credential.specs.Refusals.{answered};
 ghost use Rattle.model.specs.Tables.{table};
+ghost use Rattle.model.specs.Theorems.{Laws-of-certificates};
 ghost use Rattle.checker.specs.Checks.{Checked, One-answer, Accepted-is-the-model, Certificates-accepted, Same-answer};
 use credential::Credential;
 use credential::Membership;
@@ -34,6 +35,7 @@ pub fn check<S: Source>(source: &S, verdicts: &[u8], numbers: &[u16]) -> Result<
     ensures sound { λ r. ⌜ Accepted-is-the-model (S·Source .list (now (source .entry))) (table (now (verdicts .entry)) (now (numbers .entry))) (answered r) ⌝ }
     ensures complete { λ r. ⌜ Certificates-accepted (S·Source .list (now (source .entry))) (table (now (verdicts .entry)) (now (numbers .entry))) (answered r) ⌝ }
     ensures order { λ r. ⌜ Same-answer (S·Source .list (now (source .entry))) (table (now (verdicts .entry)) (now (numbers .entry))) (answered r) ⌝ }
+    ensures laws { λ _. ⌜ Laws-of-certificates ⌝ }
 {
     let credentials = load(source);
     check_list(credentials.list(), verdicts, numbers)

@@ -8,3 +8,4 @@ pub mod Any
 pub mod Grounds
 pub mod Places
 pub mod Copies
+pub mod Laws

@@ -2,6 +2,7 @@ use Prim.Native.Nat.{_-_}
 use mathlib.Core.Path.{subst, _∙_}
 use Rattle.credential.specs.Refusals.{answered}
 use Rattle.model.specs.Tables.{table}
+use Rattle.model.proofs.Laws.{laws-of-certificates}
 use Rattle.checker.specs.Checks.{Checked}
 use Rattle.checker.proofs.Unique.{one-answer, accepted-is-the-model, certificates-accepted, same-answer}
 use Rattle.checker.proofs.check.Needs as need
@@ -18,4 +19,5 @@ returns g c =
       sound = accepted-is-the-model list t r says;
       complete = certificates-accepted list t r says;
       order = same-answer list t r says;
+      laws = laws-of-certificates;
     }
