@@ -1,0 +1,11 @@
+pub mod Bodies
+pub mod Growth
+pub mod Fixpoints
+pub mod Soundness
+pub mod Leastness
+pub mod Order
+pub mod Any
+pub mod Grounds
+pub mod Places
+pub mod Copies
+pub mod Laws

@@ -1,0 +1,5 @@
+pub mod Clauses
+pub mod Stages
+pub mod Tables
+pub mod Grounds
+pub mod Theorems
