@@ -14,12 +14,12 @@ use Rattle.credential.specs.Refusals.{Named, refused}
 use Rattle.register.specs.Standing.{stands}
 use Rattle.register.specs.Registers.{becoming, admitted, published, located, withdrawn}
 
-pub published-is : (limit : ℕ) (xs : List Credential) (c : Credential) (standing : Bool) (n : ℕ) {r : Result (Unit {0}) Named}
-    → r ≡ admitted standing (eqb n limit) → standing ≡ stands xs c → n ≡ length xs → published limit xs c ≡ becoming xs (xs ++ c ∷ []) r
+pub published-is : (limit : ℕ) (xs : List Credential) (c : Credential) (standing full : Bool) {r : Result (Unit {0}) Named}
+    → r ≡ admitted standing full → standing ≡ stands xs c → full ≡ eqb (length xs) limit → published limit xs c ≡ becoming xs (xs ++ c ∷ []) r
 unfolding published
-published-is limit xs c standing n a s l =
+published-is limit xs c standing full a s l =
     ap (λ (t : Bool). becoming xs (xs ++ c ∷ []) (admitted t (eqb (length xs) limit))) (sym s)
-    ∙ ap (λ (m : ℕ). becoming xs (xs ++ c ∷ []) (admitted standing (eqb m limit))) (sym l)
+    ∙ ap (λ (t : Bool). becoming xs (xs ++ c ∷ []) (admitted standing t)) (sym l)
     ∙ ap (becoming xs (xs ++ c ∷ [])) (sym a)
 
 pub withdrawn-is : (xs : List Credential) (p n : ℕ) {r : Result (Unit {0}) Named}
@@ -33,9 +33,9 @@ never : {n : ℕ} {P : Type 0} → _≡_ {A = Result (Unit {0}) Named} (Ok tt) (
 never q = let z : _≡_ {A = ℕ} 0 1 = cc in absurd (omega arith)
 
 -- a register that admits is not full
-pub admitted-room : (standing : Bool) (n limit : ℕ) → Ok tt ≡ admitted standing (eqb n limit) → n ≡ limit → ⊥
-admitted-room true n limit a e = never a
-admitted-room false n limit a e = never (a ∙ ap (admitted false) (eq-eqb n limit e))
+pub admitted-room : (standing full : Bool) (n limit : ℕ) → Ok tt ≡ admitted standing full → full ≡ eqb n limit → n ≡ limit → ⊥
+admitted-room true full n limit a l e = never a
+admitted-room false full n limit a l e = never (a ∙ ap (admitted false) (l ∙ eq-eqb n limit e))
 
 -- a place that is located is within the count
 pub located-within : (p n : ℕ) → Ok tt ≡ located p n → (1 ≤ p) × (p ≤ n)

@@ -3,6 +3,7 @@ ghost use mathlib.Core.Path.{_≡_};
 ghost use mathlib.Core.Bool.{true};
 ghost use mathlib.Core.List.{[], _++_};
 ghost use Prim.Native.Nat.{_+_, _≤_};
+ghost use lib.Dec.{eqb};
 ghost use lib.ListN.{length, take, drop};
 ghost use Rattle.std.specs.Of.Vec.{vec-items, vec-len, vec-cap};
 ghost use Rattle.std.specs.Results.{isOk};
@@ -38,6 +39,12 @@ impl PageText {
         let text = Vec::with_capacity(heap, LINE * Self::CAPACITY)?;
         Ok(PageText { text })
     }
+
+    fn is_full(&self) -> bool
+        ensures { λ r. ⌜ r ≡ eqb (length (credentialsOf (vec-items (now (self .entry) .text)))) 128 ⌝ }
+    {
+        self.count() == Self::CAPACITY
+    }
 }
 
 // The bytes of a line.
@@ -69,7 +76,7 @@ pub impl Register for PageText as PageTextRegister {
     }
 
     fn publish(&mut self, credential: Credential) -> Result<(), Refusal> {
-        admit(stands(self, credential), self.count() == Self::CAPACITY)?;
+        admit(stands(self, credential), self.is_full())?;
         put_line(&mut self.text, credential);
         Ok(())
     }

@@ -2,7 +2,8 @@
 ghost use mathlib.Core.Path.{_≡_};
 ghost use mathlib.Core.List.{[], _∷_, _++_};
 ghost use Prim.Native.Nat.{_+_, _≤_, _<_};
-ghost use lib.ListN.{take, drop};
+ghost use lib.Dec.{eqb};
+ghost use lib.ListN.{length, take, drop};
 ghost use Rattle.std.specs.Of.Vec.{vec-items, vec-len, vec-cap};
 ghost use Rattle.std.specs.Vec.{made};
 use crate::registers::Register;
@@ -31,6 +32,12 @@ impl RecordList {
         let records = Vec::with_capacity(heap, Self::CAPACITY)?;
         Ok(RecordList { records })
     }
+
+    fn is_full(&self) -> bool
+        ensures { λ r. ⌜ r ≡ eqb (length (vec-items (now (self .entry) .records))) 192 ⌝ }
+    {
+        self.count() == Self::CAPACITY
+    }
 }
 
 pub impl Source for RecordList as RecordListSource {
@@ -58,7 +65,7 @@ pub impl Register for RecordList as RecordListRegister {
     }
 
     fn publish(&mut self, credential: Credential) -> Result<(), Refusal> {
-        admit(stands(self, credential), self.count() == Self::CAPACITY)?;
+        admit(stands(self, credential), self.is_full())?;
         put_last(&mut self.records, credential);
         Ok(())
     }

@@ -1,4 +1,4 @@
-// What a register is, and whether a credential stands in a source.
+// What a register is, and the tests that all registers share.
 ghost use mathlib.Core.Path.{_≡_};
 ghost use Prim.Native.Nat.{ℕ, _≤_};
 ghost use lib.ListN.{length};

@@ -1,4 +1,5 @@
 use mathlib.Core.Path.{sym, ap, _∙_}
+use lib.ListN.{length}
 use native.Mathlib.Omega.{arith}
 use Rattle.std.specs.Of.Vec.{vec-items}
 use Rattle.std.proofs.shelf.Results.{err-from-errBy}
@@ -13,8 +14,8 @@ use Rattle.register.proofs.page_text.PageTextRegister.publish.Needs as need
 
 pub returns-in-Break-admit : need.returns-in-Break-admit
 returns-in-Break-admit c =
-    let o = sym (published-is 128 (credentialsOf (vec-items (c .args .self .now .text))) (c .args .credential) (c .stands .result) (c .count .result)
-    (c .in-Break-admit .ensures tt) (c .stands .ensures .value) (c .count .ensures .value)) in
+    let o = sym (published-is 128 (credentialsOf (vec-items (c .args .self .now .text))) (c .args .credential) (c .stands .result) (c .is-full .result)
+    (c .in-Break-admit .ensures tt) (c .stands .ensures .value) (c .is-full .ensures)) in
     let n = text-length (vec-items (c .args .self .now .text)) (c .args .self .now .lawful) in
     let p = err-from-errBy (c .from-residual .result) (c .from-residual .ensures .1) in
     record {
@@ -26,23 +27,23 @@ returns-in-Break-admit c =
 pub put-line-requires : need.put-line-requires
 put-line-requires c κs =
     let n = text-length (vec-items (c .args .self .now .text)) (c .args .self .now .lawful) in
-    let room = admitted-room (c .stands .result) (c .count .result) 128 (c .in-Continue-admit .ensures tt) in
+    let room = admitted-room (c .stands .result) (c .is-full .result) (length (credentialsOf (vec-items (c .args .self .now .text)))) 128 (c .in-Continue-admit .ensures tt) (c .is-full .ensures) in
     omega (arith, c .args .self .now .text .ok .0)
 
 pub ghost-self : need.ghost-self
 ghost-self c =
     let n = text-length (vec-items (c .args .self .now .text)) (c .args .self .now .lawful) in
-    let room = admitted-room (c .stands .result) (c .count .result) 128 (c .in-Continue-admit .ensures tt) in
+    let room = admitted-room (c .stands .result) (c .is-full .result) (length (credentialsOf (vec-items (c .args .self .now .text)))) 128 (c .in-Continue-admit .ensures tt) (c .is-full .ensures) in
     let r = text-more _ (c .args .self .now .lawful) _ (c .args .credential) (omega (arith, c .args .self .now .text .ok .0)) (c .put-line .ensures .items) in
     (r .0, (omega (arith, c .args .self .now .text .ok .0), (omega arith, tt)))
 
 pub returns : need.returns
 returns c =
     let n = text-length (vec-items (c .args .self .now .text)) (c .args .self .now .lawful) in
-    let room = admitted-room (c .stands .result) (c .count .result) 128 (c .in-Continue-admit .ensures tt) in
+    let room = admitted-room (c .stands .result) (c .is-full .result) (length (credentialsOf (vec-items (c .args .self .now .text)))) 128 (c .in-Continue-admit .ensures tt) (c .is-full .ensures) in
     let r = text-more _ (c .args .self .now .lawful) _ (c .args .credential) (omega (arith, c .args .self .now .text .ok .0)) (c .put-line .ensures .items) in
-    let o = sym (published-is 128 (credentialsOf (vec-items (c .args .self .now .text))) (c .args .credential) (c .stands .result) (c .count .result)
-    (c .in-Continue-admit .ensures tt) (c .stands .ensures .value) (c .count .ensures .value)) in
+    let o = sym (published-is 128 (credentialsOf (vec-items (c .args .self .now .text))) (c .args .credential) (c .stands .result) (c .is-full .result)
+    (c .in-Continue-admit .ensures tt) (c .stands .ensures .value) (c .is-full .ensures)) in
     record {
       answer = ap (λ (o : Outcome). o .answer) o;
       list = r .1 ∙ ap (λ (o : Outcome). o .list) o;

@@ -1,4 +1,5 @@
 use mathlib.Core.Path.{sym, ap, _∙_}
+use lib.ListN.{length}
 use native.Mathlib.Omega.{arith}
 use Rattle.std.specs.Of.Vec.{vec-items}
 use Rattle.std.proofs.shelf.Results.{err-from-errBy}
@@ -11,8 +12,8 @@ use Rattle.register.proofs.record_list.RecordListRegister.publish.Needs as nee
 
 pub returns-in-Break-admit : need.returns-in-Break-admit
 returns-in-Break-admit c =
-    let o = sym (published-is 192 (vec-items (c .args .self .now .records)) (c .args .credential) (c .stands .result) (c .count .result)
-    (c .in-Break-admit .ensures tt) (c .stands .ensures .value) (c .count .ensures .value)) in
+    let o = sym (published-is 192 (vec-items (c .args .self .now .records)) (c .args .credential) (c .stands .result) (c .is-full .result)
+    (c .in-Break-admit .ensures tt) (c .stands .ensures .value) (c .is-full .ensures)) in
     let p = err-from-errBy (c .from-residual .result) (c .from-residual .ensures .1) in
     record {
       answer = ap answered (p .1) ∙ ap (λ (e : Refusal). Err (named e)) (p .2) ∙ ap (λ (o : Outcome). o .answer) o;
@@ -21,16 +22,16 @@ returns-in-Break-admit c =
     }
 
 pub put-last-requires : need.put-last-requires
-put-last-requires c κs = let n = admitted-room (c .stands .result) (c .count .result) 192 (c .in-Continue-admit .ensures tt) in omega (arith, c .args .self .now .records .ok .0)
+put-last-requires c κs = let n = admitted-room (c .stands .result) (c .is-full .result) (length (vec-items (c .args .self .now .records))) 192 (c .in-Continue-admit .ensures tt) (c .is-full .ensures) in omega (arith, c .args .self .now .records .ok .0)
 
 pub ghost-self : need.ghost-self
-ghost-self c = let n = admitted-room (c .stands .result) (c .count .result) 192 (c .in-Continue-admit .ensures tt) in (omega (arith, c .args .self .now .records .ok .0), (omega arith, tt))
+ghost-self c = let n = admitted-room (c .stands .result) (c .is-full .result) (length (vec-items (c .args .self .now .records))) 192 (c .in-Continue-admit .ensures tt) (c .is-full .ensures) in (omega (arith, c .args .self .now .records .ok .0), (omega arith, tt))
 
 pub returns : need.returns
 returns c =
-    let o = sym (published-is 192 (vec-items (c .args .self .now .records)) (c .args .credential) (c .stands .result) (c .count .result)
-    (c .in-Continue-admit .ensures tt) (c .stands .ensures .value) (c .count .ensures .value)) in
-    let n = admitted-room (c .stands .result) (c .count .result) 192 (c .in-Continue-admit .ensures tt) in
+    let o = sym (published-is 192 (vec-items (c .args .self .now .records)) (c .args .credential) (c .stands .result) (c .is-full .result)
+    (c .in-Continue-admit .ensures tt) (c .stands .ensures .value) (c .is-full .ensures)) in
+    let n = admitted-room (c .stands .result) (c .is-full .result) (length (vec-items (c .args .self .now .records))) 192 (c .in-Continue-admit .ensures tt) (c .is-full .ensures) in
     record {
       answer = ap (λ (o : Outcome). o .answer) o;
       list = c .put-last .ensures .items ∙ ap (λ (o : Outcome). o .list) o;
