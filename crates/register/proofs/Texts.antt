@@ -82,11 +82,12 @@ part-put a k n xs ys zs m e =
 pub line-written : (c : Credential) (out : List ℕ) → length out ≡ 20 → writeAfter (c ∷ []) out ≡ lineOf c
 line-written c out h = sym (one-line c out (lineOf c) (omega arith) refl) ∙ ap (λ (t : List ℕ). lineOf c ++ t) (drop-all 20 out (omega arith)) ∙ append-nil (lineOf c)
 
-pub line-put : (bs blanks : List ℕ) (c : Credential) (n : ℕ) → length bs ≡ n → length blanks ≡ 20
-    → take n (bs ++ blanks) ++ (lineOf c ++ drop (n + 20) (bs ++ blanks)) ≡ bs ++ lineOf c
-line-put bs blanks c n h k =
+pub line-put : (bs blanks text : List ℕ) (c : Credential) (n : ℕ) {ys : List ℕ} → ys ≡ take n text ++ (lineOf c ++ drop (n + 20) text) → text ≡ bs ++ blanks
+    → length bs ≡ n → length blanks ≡ 20 → ys ≡ bs ++ lineOf c
+line-put bs blanks text c n y e h k =
     let l = length-append bs blanks in
-    ap (λ (t : List ℕ). t ++ (lineOf c ++ drop (n + 20) (bs ++ blanks))) (take-at bs blanks n h)
+    y ∙ ap (λ (t : List ℕ). take n t ++ (lineOf c ++ drop (n + 20) t)) e
+    ∙ ap (λ (t : List ℕ). t ++ (lineOf c ++ drop (n + 20) (bs ++ blanks))) (take-at bs blanks n h)
     ∙ ap (λ (t : List ℕ). bs ++ (lineOf c ++ t)) (drop-all (n + 20) (bs ++ blanks) (omega arith))
     ∙ ap (λ (t : List ℕ). bs ++ t) (append-nil (lineOf c))
 
