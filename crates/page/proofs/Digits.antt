@@ -25,10 +25,14 @@ numeral-start xs w n e =
     ap (λ (t : List ℕ). lead w (n / 10) ++ t)
     (drop-set xs w (48 + n % 10) (omega arith) ∙ ap (λ (t : List ℕ). (48 + n % 10) ∷ t) (drop-all (w + 1) xs (omega arith)))
 
-pub numeral-last : (xs : List ℕ) (n : ℕ) → 0 < length xs → lead (length xs - 1) (n / 10) ++ drop (length xs - 1) (set xs (length xs - 1) (48 + n % 10)) ≡ numeral (length (set xs (length xs - 1) (48 + n % 10))) n
-numeral-last xs n h =
+numeral-end : (xs : List ℕ) (n : ℕ) → 0 < length xs → lead (length xs - 1) (n / 10) ++ drop (length xs - 1) (set xs (length xs - 1) (48 + n % 10)) ≡ numeral (length (set xs (length xs - 1) (48 + n % 10))) n
+numeral-end xs n h =
     let e : length xs ≡ suc (length xs - 1) = omega arith in
     numeral-start xs (length xs - 1) n e ∙ ap (λ (w : ℕ). numeral w n) (sym (length-set xs (length xs - 1) (48 + n % 10) ∙ e))
+
+pub numeral-last : (xs : List ℕ) (n v : ℕ) → v ≡ 48 + n % 10 → 0 < length xs → lead (length xs - 1) (n / 10) ++ drop (length xs - 1) (set xs (length xs - 1) v) ≡ numeral (length (set xs (length xs - 1) v)) n
+numeral-last xs n v e h =
+    subst (λ (u : ℕ). lead (length xs - 1) (n / 10) ++ drop (length xs - 1) (set xs (length xs - 1) u) ≡ numeral (length (set xs (length xs - 1) u)) n) (sym e) (numeral-end xs n h)
 
 lead-step : (xs t : List ℕ) (i n v : ℕ) → i < length xs → v ≡ cond (eqb n 0) 32 (48 + n % 10) → lead (suc i) n ++ drop (suc i) xs ≡ t → lead i (n / 10) ++ drop i (set xs i v) ≡ t
 unfolding lead

@@ -126,7 +126,7 @@ placed-at cs i =
     cond-false (eqb (i + 1) 0) _ _ (ne-eqb (i + 1) 0 z) ∙ ap (λ (j : ℕ). nth cs j) k
 
 module _ (cs : List Credential) (out xs : List ℕ) (i : ℕ) (q : xs ≡ pageOf (take i cs) ++ drop (20 * i) out) where
-  pub page-more : (c : Credential) (ys : List ℕ) → i < length cs → placed cs (i + 1) ≡ Some c → ys ≡ lineOf c
+  page-more : (c : Credential) (ys : List ℕ) → i < length cs → placed cs (i + 1) ≡ Some c → ys ≡ lineOf c
       → putMid (20 * i) (20 * i + 20 - 20 * i) xs ys ≡ pageOf (take (i + 1) cs) ++ drop (20 * (i + 1)) out
   page-more c ys h e y =
       let l : length (take i cs) ≡ i = length-take-le i cs (omega arith) in
@@ -136,6 +136,10 @@ module _ (cs : List Credential) (out xs : List ℕ) (i : ℕ) (q : xs ≡ pageOf
       ∙ ap pageOf (sym (nth-more cs i c (sym (placed-at cs i) ∙ e))) ∙ ap (λ (j : ℕ). pageOf (take j cs)) (sym (add-one i)) in
       put-behind (20 * i) (20 * i + 20 - 20 * i) (20 * (i + 1)) (pageOf (take i cs)) out xs ys q front (omega arith)
       ∙ ap (λ (t : List ℕ). t ++ drop (20 * (i + 1)) out) more
+
+  pub page-more-at : (a : ℕ) → a ≡ 20 * i → (c : Credential) (ys : List ℕ) → i < length cs → placed cs (i + 1) ≡ Some c → ys ≡ lineOf c
+      → putMid a (a + 20 - a) xs ys ≡ pageOf (take (i + 1) cs) ++ drop (20 * (i + 1)) out
+  page-more-at a m c ys h e y = subst (λ (b : ℕ). putMid b (b + 20 - b) xs ys ≡ pageOf (take (i + 1) cs) ++ drop (20 * (i + 1)) out) (sym m) (page-more c ys h e y)
 
   pub page-all : i ≡ length cs → xs ≡ pageOf cs ++ drop (20 * length cs) out
   page-all e =

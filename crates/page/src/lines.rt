@@ -1,11 +1,12 @@
 // Lines of a page: read to a credential, and written from one.
 ghost use mathlib.Core.Path.{_≡_};
+ghost use Prim.Native.Nat.{_<_};
 ghost use mathlib.Core.List.{[], _∷_, _++_};
 ghost use lib.ListN.{length, take, drop};
 ghost use Rattle.credential.specs.Letters.{marksOf};
 ghost use Rattle.credential.specs.Refusals.{answered};
 ghost use Rattle.page.specs.Fields.{fieldText};
-ghost use Rattle.page.specs.Lines.{readLetter, readFields, readLine, letterByte, fieldsText, lineOf};
+ghost use Rattle.page.specs.Lines.{readLetter, readField, readFields, readLine, letterByte, fieldsText, lineOf};
 ghost use Rattle.page.specs.Pages.{writeAnswer, writeAfter};
 use crate::fields::field_at;
 use crate::fields::value_of;
@@ -48,9 +49,19 @@ fn read_fields(text: &[u8], line: usize, letter: Letter) -> Result<[Option<u32>;
     let marks = letter.marks();
     let mut fields = [None; 6];
     for k in 0..6 {
-        fields[k] = value_of(field_at(text, line, k), marks[k])?;
+        fields[k] = read_field(marks, text, line, k)?;
     }
     Ok(fields)
+}
+
+// What stands in field `k`, from 0, under a row of marks.
+fn read_field(marks: &[Mark], text: &[u8], line: usize, k: usize) -> Result<Option<u32>, Refusal>
+    requires marks { ⌜ length (now marks) ≡ 6 ⌝ }
+    requires text { ⌜ length (now text) ≡ 20 ⌝ }
+    requires field { ⌜ k < 6 ⌝ }
+    ensures { λ r. ⌜ answered r ≡ readField (now (marks .entry)) (now (text .entry)) line k ⌝ }
+{
+    value_of(field_at(text, line, k), marks[k])
 }
 
 // Writes the line of a credential into the first 20 bytes, and answers how many were written.

@@ -1,6 +1,6 @@
 // Decimal numbers in columns: right-justified, blanks on the left, no leading zero.
 ghost use mathlib.Core.Path.{_≡_};
-ghost use Prim.Native.Nat.{_^_, _<_, _≤_};
+ghost use Prim.Native.Nat.{_+_, _%_, _^_, _<_, _≤_};
 ghost use lib.ListN.{length};
 ghost use Rattle.std.specs.Slices.{found};
 ghost use Rattle.page.specs.Numerals.{next, leading, numberIn, numeral, Numbered};
@@ -64,14 +64,17 @@ pub fn write_number(columns: &mut [u8], number: u32)
         return;
     }
     let last = width - 1;
-    columns[last] = b'0' + (number % 10) as u8;
+    columns[last] = last_digit(number);
     let mut rest = number / 10;
     for i in (0..last).rev() {
-        columns[i] = if rest == 0 {
-            b' '
-        } else {
-            b'0' + (rest % 10) as u8
-        };
+        columns[i] = if rest == 0 { b' ' } else { last_digit(rest) };
         rest = rest / 10;
     }
+}
+
+// The last digit of a number, as its byte.
+fn last_digit(number: u32) -> u8
+    ensures { λ r. ⌜ r ≡ 48 + number % 10 ⌝ }
+{
+    b'0' + (number % 10) as u8
 }

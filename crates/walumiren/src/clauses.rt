@@ -28,8 +28,7 @@ pub(crate) fn clause_body(credential: Credential, member: Entity, through: Entit
         head,
         first,
         second,
-    } = credential
-    {
+    } = credential {
         let group = Role {
             owner: head.owner,
             name: first,

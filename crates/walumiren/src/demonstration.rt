@@ -10,8 +10,8 @@ use credential::Membership;
 use credential::Refusal;
 use credential::notation::RefusalDisplay;
 use page::Page;
-use std::error::AnyError;
 use page::pages::calls::PageSource;
+use std::error::AnyError;
 
 const LAWFUL: &[u8] = b"\
 M  1  1  4         \n\

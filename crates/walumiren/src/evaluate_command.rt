@@ -25,7 +25,10 @@ pub(crate) fn print_entries(rt: &LibcRuntime, page: &Page<'_>) -> Result<Outcome
     let yes = tables.count(b'T');
     let no = tables.count(b'F');
     let open = tables.count(b'U');
-    println!(rt, "rounds {rounds}, true {yes}, false {no}, undefined {open}")?;
+    println!(
+        rt,
+        "rounds {rounds}, true {yes}, false {no}, undefined {open}"
+    )?;
     Ok(Outcome::Done)
 }
 

@@ -138,7 +138,10 @@ fn explain_entry(
     for place in 1..=page.count() {
         if let Some(credential) = page.at(place) {
             if let Some((body, through)) = support_in(tables, credential, membership) {
-                print!(rt, "{member} in {role} {verdict} by line {place}: {credential}")?;
+                print!(
+                    rt,
+                    "{member} in {role} {verdict} by line {place}: {credential}"
+                )?;
                 if let Credential::Linked { .. } = credential {
                     print!(rt, ", through {through}")?;
                 }
@@ -237,7 +240,8 @@ fn explain_false(
     for place in 1..=page.count() {
         if let Some(credential) = page.at(place) {
             let own = head(credential);
-            if own.owner.number() == role.owner.number() && own.name.number() == role.name.number()
+            if own.owner.number() == role.owner.number()
+                && own.name.number() == role.name.number()
             {
                 println!(rt, "line {place}: {credential}")?;
                 print_failures(rt, tables, credential, membership.member)?;

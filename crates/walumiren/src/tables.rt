@@ -29,7 +29,11 @@ impl Tables {
 
     // Fills the tables with the least certificate, and answers the rounds.
     pub(crate) fn fill<S: Source>(&mut self, source: &S) -> Result<u16, Refusal> {
-        evaluate(source, self.verdicts.as_mut_slice(), self.numbers.as_mut_slice())
+        evaluate(
+            source,
+            self.verdicts.as_mut_slice(),
+            self.numbers.as_mut_slice(),
+        )
     }
 
     // Checks the tables as anyone's certificate of the source.

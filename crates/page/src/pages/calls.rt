@@ -2,7 +2,7 @@
 ghost use denote.Ref.{now};
 ghost use mathlib.Core.Path.{_≡_};
 ghost use mathlib.Core.List.{_++_};
-ghost use Prim.Native.Nat.{_≤_};
+ghost use Prim.Native.Nat.{_+_, _*_, _/_, _≤_};
 ghost use lib.ListN.{length, drop, take};
 ghost use Rattle.std.specs.Vec.{made};
 ghost use Rattle.std.specs.declared.option.Option.the-variants.{None};
@@ -24,7 +24,7 @@ fn test_page(bytes: &[u8]) -> Result<(), Refusal>
     if len > 5120 {
         return Err(Refusal::PageTooLong);
     }
-    let count = (len + 19) / 20;
+    let count = lines_in(len);
     for i in 0..count {
         let end = len.min(20 * i + 20);
         read_line(&bytes[20 * i..end], i + 1)?;
@@ -37,6 +37,14 @@ fn test_page(bytes: &[u8]) -> Result<(), Refusal>
 pub struct Reading<'a> {
     pub page: Page<'a>,
     pub refusal: Option<Refusal>,
+}
+
+// How many lines the bytes are cut into, the last of which may be short.
+fn lines_in(len: usize) -> usize
+    requires { ⌜ len ≤ 5120 ⌝ }
+    ensures { λ r. ⌜ r ≡ (len + 19) / 20 ⌝ }
+{
+    (len + 19) / 20
 }
 
 impl<'a> Page<'a> {
@@ -72,7 +80,7 @@ pub impl<'a> Source for Page<'a> as PageSource {
         if place < 1 || place > self.count() {
             return None;
         }
-        let at = 20 * (place - 1);
+        let at = line_start(place - 1);
         let bytes = self.bytes;
         read_line(&bytes[at..at + 20], place).ok()
     }
@@ -90,10 +98,19 @@ pub fn write_page<S: Source>(source: &S, out: &mut [u8]) -> Result<usize, Refusa
     }
     for i in 0..count {
         if let Some(credential) = source.at(i + 1) {
-            fill_line(&mut out[20 * i..20 * i + 20], credential);
+            let at = line_start(i);
+            fill_line(&mut out[at..at + 20], credential);
         }
     }
     Ok(20 * count)
+}
+
+// Where line `i`, from 0, begins.
+fn line_start(i: usize) -> usize
+    requires { ⌜ i ≤ 256 ⌝ }
+    ensures { λ r. ⌜ r ≡ 20 * i ⌝ }
+{
+    20 * i
 }
 
 // Writes a page that was read: it comes out byte for byte.

@@ -17,14 +17,14 @@ pub loop-k-again : need.loop-k-again
 loop-k-again c =
     array-more 6 (readField (c .marks-marks .result .now) (c .args .text .now) (c .args .line)) (c .loop-k .k) (c .loop-k .fields) _ (c .loop-k .inv .1) (c .loop-k .inv .0)
     (c .in-Continue-fields .field-0) (c .loop-k-test .taken)
-    (sym (c .in-Continue-fields .ensures tt ∙ ap (λ (s : Seen). valueOf (getD (c .marks-marks .result .now) (c .loop-k .k) E) s) (c .field-at .ensures)))
+    (sym (c .in-Continue-fields .ensures tt))
 
 pub returns-in-Break-fields : need.returns-in-Break-fields
 returns-in-Break-fields c =
     let p = err-from-errBy (c .from-residual .result) (c .from-residual .ensures .1) in
     rw (p .1, p .2)
     (sym (collect-stop 6 (readField (c .marks-marks .result .now) (c .args .text .now) (c .args .line)) (c .loop-k .k) _ _ (c .loop-k-test .taken) (c .loop-k .inv .0) _
-    (sym (c .in-Break-fields .ensures tt ∙ ap (λ (s : Seen). valueOf (getD (c .marks-marks .result .now) (c .loop-k .k) E) s) (c .field-at .ensures))))
+    (sym (c .in-Break-fields .ensures tt)))
     ∙ ap (λ (ms : List Mark). readFields ms (c .args .text .now) (c .args .line)) (c .marks-marks .ensures))
 
 pub returns : need.returns

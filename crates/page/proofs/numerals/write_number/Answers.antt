@@ -9,7 +9,7 @@ use Rattle.page.proofs.numerals.write_number.Needs as need
 use Rattle.page.proofs.numerals.write_number.Needs.{then-rest-eq0, else-rest-eq0}
 
 pub loop-i-holds : need.loop-i-holds
-loop-i-holds c = numeral-last (c .args .columns .now) (c .args .number) (omega arith)
+loop-i-holds c = numeral-last (c .args .columns .now) (c .args .number) (c .last-digit .result) (c .last-digit .ensures) (omega arith)
 
 pub returns-then-width-eq0 : need.returns-then-width-eq0
 returns-then-width-eq0 c = no-columns (c .args .columns .now) (c .args .number) (c .if-width-eq0 .taken)

@@ -9,7 +9,7 @@ use lib.ListN.{length, take, drop}
 use Rattle.std.proofs.shelf.Tests.{cond-false}
 use Rattle.std.specs.declared.result.Result.the-variants.{Ok}
 use Rattle.page.specs.Pages.{pageOf, readPage}
-use Rattle.page.proofs.Paging.{page-none, page-more, page-all, never-absent, long-enough, written-read}
+use Rattle.page.proofs.Paging.{page-none, page-more-at, page-all, never-absent, long-enough, written-read}
 use Rattle.page.proofs.pages.calls.write_page.Needs as need
 use Rattle.page.proofs.pages.calls.write_page.Needs.{in-Some, in-rest}
 
@@ -21,7 +21,7 @@ loop-i-again g c =
     let h : c .loop-i .i < length (g .S·Source .list (c .args .source .now)) = search needs in
     elim (c .match-at .came) [
       | in-Some w ↦
-          w .out-is ∙ page-more (g .S·Source .list (c .args .source .now)) (c .args .out .now) (c .loop-i .out) (c .loop-i .i) (c .loop-i .inv) (w .in-Some .credential) (w .fill-line .last .line)
+          w .out-is ∙ page-more-at (g .S·Source .list (c .args .source .now)) (c .args .out .now) (c .loop-i .out) (c .loop-i .i) (c .loop-i .inv) (w .line-start-at .result) (w .line-start-at .ensures) (w .in-Some .credential) (w .fill-line .last .line)
           h (sym (w .in-Some .ensures tt)) (w .fill-line .ensures)
       | in-rest w ↦ never-absent (g .S·Source .list (c .args .source .now)) (c .loop-i .i) h (sym (w .in-rest .ensures tt))
     ]

@@ -29,5 +29,7 @@ returns c =
     let k : 20 * (c .args .place - 1) + 20 - 20 * (c .args .place - 1) ≡ 20 = omega arith in
     c .ok .ensures .value
     ∙ as-option (c .read-line .result) (p .0)
-    (c .read-line .ensures ∙ ap (λ (j : ℕ). readLine (take j (drop (20 * (c .args .place - 1)) (c .args .self .now .bytes .now))) (c .args .place)) k ∙ p .1)
+    (c .read-line .ensures
+    ∙ ap (λ (a : ℕ). readLine (take (a + 20 - a) (drop a (c .args .self .now .bytes .now))) (c .args .place)) (c .line-start-at .ensures)
+    ∙ ap (λ (j : ℕ). readLine (take j (drop (20 * (c .args .place - 1)) (c .args .self .now .bytes .now))) (c .args .place)) k ∙ p .1)
     ∙ sym (p .2)
