@@ -1,0 +1,4 @@
+pub mod Events
+pub mod Words
+pub mod Law
+pub mod Theorems
