@@ -1,9 +1,19 @@
 // The law over a vault's whole history, and what follows from it: specs/ says both.
-ghost use Rattle.history.specs.Theorems.{Balances, Serials-rise, Limits-kept};
+ghost use Rattle.history.specs.Theorems.{Balances, Serials-rise, Limits-kept, One-answer, Some-answer, Offers-follow, Refusals-follow, Tables-model, Vaults-agree};
 
 // Every lease is declined, handed back or open; serials rise by one; no limit is passed.
 pub fn counts_hold()
     ensures balances { λ _. ⌜ Balances ⌝ }
     ensures serials { λ _. ⌜ Serials-rise ⌝ }
     ensures limits { λ _. ⌜ Limits-kept ⌝ }
+{}
+
+// One answer is due to each call, and offers, refusals and tables follow the model.
+pub fn answers_hold()
+    ensures one { λ _. ⌜ One-answer ⌝ }
+    ensures some { λ _. ⌜ Some-answer ⌝ }
+    ensures offers { λ _. ⌜ Offers-follow ⌝ }
+    ensures refusals { λ _. ⌜ Refusals-follow ⌝ }
+    ensures tables { λ _. ⌜ Tables-model ⌝ }
+    ensures vaults { λ _. ⌜ Vaults-agree ⌝ }
 {}
