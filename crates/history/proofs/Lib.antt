@@ -6,3 +6,8 @@ pub mod Offers
 pub mod Unique
 pub mod Total
 pub mod Following
+pub mod Keeping
+pub mod Reading
+pub mod Recording
+pub mod Stating
+pub mod Promises

@@ -3,9 +3,9 @@ use mathlib.Core.Path.{_≡_}
 use mathlib.Core.List.{List, [], _∷_, _++_, map}
 use mathlib.Core.Option.{Option, none, some}
 use mathlib.Core.Bool.{Bool, true, false, cond, _||_}
-use Prim.Native.Nat.{ℕ, _+_, _-_}
+use Prim.Native.Nat.{ℕ, _+_, _-_, _<_}
 use lib.Dec.{eqb}
-use lib.ListN.{length, take, drop}
+use lib.ListN.{length, getD, take, drop}
 use Rattle.credential.specs.declared.credentials.Credential.{Credential}
 use Rattle.credential.specs.declared.memberships.Membership.{Membership}
 use Rattle.model.specs.Tables.{Table}
@@ -15,6 +15,10 @@ use Rattle.history.specs.Events.{Making, Slip, Event, History, published, with
 abbrev pub total : {X : Type 0} → (X → ℕ) → List X → ℕ
 total w [] = 0
 total w (x ∷ xs) = w x + total w xs
+
+-- the list has this one at a place
+abbrev pub Holds-at : {X : Type 0} → List X → ℕ → X → Type 0
+Holds-at {X} xs i x = (i < length xs) × ((d : X) → getD xs i d ≡ x)
 
 -- 1 for yes, 0 for no
 abbrev pub one-if : Bool → ℕ

@@ -1,4 +1,6 @@
 // The law over a vault's whole history, and what follows from it: specs/ says both.
+ghost use Rattle.history.specs.Contents.{Making-keeps, Calls-keep, Contents-say};
+ghost use Rattle.history.specs.Promise.{Promise-met};
 ghost use Rattle.history.specs.Theorems.{Balances, Serials-rise, Limits-kept, One-answer, Some-answer, Offers-follow, Refusals-follow, Tables-model, Vaults-agree};
 
 // Every lease is declined, handed back or open; serials rise by one; no limit is passed.
@@ -16,4 +18,16 @@ pub fn answers_hold()
     ensures refusals { λ _. ⌜ Refusals-follow ⌝ }
     ensures tables { λ _. ⌜ Tables-model ⌝ }
     ensures vaults { λ _. ⌜ Vaults-agree ⌝ }
+{}
+
+// A vault's contents agree with its history from the making on, call by call, and say what the law judges by.
+pub fn contents_hold()
+    ensures making { λ _. ⌜ Making-keeps ⌝ }
+    ensures calls { λ _. ⌜ Calls-keep ⌝ }
+    ensures words { λ _. ⌜ Contents-say ⌝ }
+{}
+
+// Contents that agree with a history meet the whole promise about it.
+pub fn promise_holds()
+    ensures { λ _. ⌜ Promise-met ⌝ }
 {}
