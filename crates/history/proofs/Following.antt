@@ -12,7 +12,7 @@ use Rattle.model.specs.Tables.{Table, Is-T, Is-F, Is-U}
 use Rattle.model.proofs.Soundness.{certificates-show-the-model}
 use Rattle.history.specs.Events.{Making, Call, Event, History, publish, withdraw, certify, adopt, offer, draw, decline, hand-back, published, withdrawn, certified, adopted, offered, drawn, declined, handed-back, refused, call, asked, Taken}
 use Rattle.history.specs.Words.{standing, certificate, offers-given}
-use Rattle.history.specs.Law.{Due, Refuses, out-of-range, no-certificate, is-false, is-undefined, book-full, all-given}
+use Rattle.history.specs.Law.{facts, Due, Refuses, out-of-range, no-certificate, is-false, is-undefined, book-full, all-given}
 use Rattle.history.specs.Theorems.{Offers-follow, Refusals-follow}
 use Rattle.history.proofs.Asked.{same-asked}
 use Rattle.history.proofs.Offers.{stands-certified, same-verdict}
@@ -39,7 +39,7 @@ offers-follow k h e m t conf q f few fewer = (
     shown : (Is-T t m ↔ Is-true (standing k h) m) × (Is-F t m ↔ Is-false (standing k h) m) × (Is-U t m ↔ Is-undefined (standing k h) m)
     shown = certificates-show-the-model (standing k h) t (stands-certified k h t (conf .0) f) m
 
-    taken : (e : Event) → Due k h e → call e ≡ asked m → Taken e → Is-true (standing k h) m
+    taken : (e : Event) → Due (facts k h) e → call e ≡ asked m → Taken e → Is-true (standing k h) m
     taken (published c) d q x = absurd (subst Is-offer (sym q) tt)
     taken (withdrawn p) d q x = absurd (subst Is-offer (sym q) tt)
     taken (certified b u n) d q x = absurd (subst Is-offer (sym q) tt)
@@ -52,7 +52,7 @@ offers-follow k h e m t conf q f few fewer = (
 
 -- what an offer that is refused by 17, or by 18, shows of its verdict
 module _ (k : Making) (h : History) (m : Membership) (t : Table) (f : certificate h ≡ some t) where
-  by-17 : (a r d : ℕ) (e : Named) → asked m ≡ offer a r d → numberIn e ≡ 17 → Refuses k h (offer a r d) e → Is-F t m
+  by-17 : (a r d : ℕ) (e : Named) → asked m ≡ offer a r d → numberIn e ≡ 17 → Refuses (facts k h) (offer a r d) e → Is-F t m
   by-17 a r d e q z (out-of-range x) = absurd (omega (arith, z))
   by-17 a r d e q z (no-certificate x y) = absurd (omega (arith, z))
   by-17 a r d e q z (is-false n w s) = same-verdict h m n t (s .0) (offer a r d) q w f (s .1) ∙ s .2
@@ -60,7 +60,7 @@ module _ (k : Making) (h : History) (m : Membership) (t : Table) (f : certificat
   by-17 a r d e q z (book-full n w s o) = absurd (omega (arith, z))
   by-17 a r d e q z (all-given n w s o g) = absurd (omega (arith, z))
 
-  by-18 : (a r d : ℕ) (e : Named) → asked m ≡ offer a r d → numberIn e ≡ 18 → Refuses k h (offer a r d) e → Is-U t m
+  by-18 : (a r d : ℕ) (e : Named) → asked m ≡ offer a r d → numberIn e ≡ 18 → Refuses (facts k h) (offer a r d) e → Is-U t m
   by-18 a r d e q z (out-of-range x) = absurd (omega (arith, z))
   by-18 a r d e q z (no-certificate x y) = absurd (omega (arith, z))
   by-18 a r d e q z (is-false n w s) = absurd (omega (arith, z))
@@ -72,11 +72,11 @@ pub refusals-follow : Refusals-follow
 refusals-follow k h e m t c q f =
     let s = certificates-show-the-model (standing k h) t (stands-certified k h t (c .0) f) m in (
       (
-        (λ z. s .1 .0 (by-17 k h m t f _ _ _ (by 17) refl refl (subst (Due k h) z (c .2)))),
+        (λ z. s .1 .0 (by-17 k h m t f _ _ _ (by 17) refl refl (subst (Due (facts k h)) z (c .2)))),
         λ z. one-answer k h e (refused (asked m) (by 17)) (c .2) (is-false m refl (t, f, s .1 .1 z)) q,
       ),
       (
-        (λ z. s .2 .0 (by-18 k h m t f _ _ _ (by 18) refl refl (subst (Due k h) z (c .2)))),
+        (λ z. s .2 .0 (by-18 k h m t f _ _ _ (by 18) refl refl (subst (Due (facts k h)) z (c .2)))),
         λ z. one-answer k h e (refused (asked m) (by 18)) (c .2) (is-undefined m refl (t, f, s .2 .1 z)) q,
       ),
     )

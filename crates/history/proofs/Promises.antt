@@ -6,7 +6,7 @@ use native.Mathlib.Omega.{arith}
 use Rattle.credential.specs.declared.numbers.RoleName.{RoleName}
 use Rattle.history.specs.Events.{Making, Event, History, certified, adopted}
 use Rattle.history.specs.Words.{for, given, declined-of, handed-back-of, open-of}
-use Rattle.history.specs.Law.{Due, Conforms}
+use Rattle.history.specs.Law.{facts, Due, Conforms}
 use Rattle.history.specs.Contents.{Contents, figure, in-book, Tells, Keeps}
 use Rattle.history.specs.Statement.{statement, statement-by}
 use Rattle.history.specs.Promise.{Past, Promise-met}
@@ -45,7 +45,7 @@ promise-met k h v a =
       vaults-agree = λ l j g e b t n c p s.
           let d = at (e ∷ g) p in
           let w = vaults-agree l k j g b t n c s in
-          (w .1 e (d .2), λ u z m. w .2 u (subst (Due k g) z (d .2)) m .1);
+          (w .1 e (d .2), λ u z m. w .2 u (subst (Due (facts k g)) z (d .2)) m .1);
       leases-conserved = λ w. omega (arith, balances k h (a .conforms) w, a .book .1 (λ l b. w l));
       leases-recorded = λ l s. (to-record k h v a l s, λ r. of-record k h v a l s (r .0) (r .1));
       recorded-once = once k h v a;

@@ -15,7 +15,7 @@ use Rattle.credential.specs.Refusals.{Named}
 use Rattle.model.specs.Tables.{Table, Is-T, Is-F, Is-U}
 use Rattle.history.specs.Events.{Making, Slip, Call, Event, History, publish, withdraw, certify, adopt, offer, draw, decline, hand-back, published, withdrawn, certified, adopted, offered, drawn, declined, handed-back, refused, call, asked}
 use Rattle.history.specs.Words.{standing, certificate, among, Lease, leases, ended, held, open-leases, offers-given, Is-open, Is-offered, Is-held}
-use Rattle.history.specs.Law.{Due, Conforms, Refuses, In-range, Fits, already-stands, register-full, no-such-place, not-evaluated, not-accepted, out-of-range, no-certificate, is-false, is-undefined, book-full, all-given, not-to-draw, not-to-decline, not-to-hand-back}
+use Rattle.history.specs.Law.{facts, Due, Conforms, Refuses, In-range, Fits, already-stands, register-full, no-such-place, not-evaluated, not-accepted, out-of-range, no-certificate, is-false, is-undefined, book-full, all-given, not-to-draw, not-to-decline, not-to-hand-back}
 use Rattle.history.specs.Theorems.{Found, Some-answer}
 use Rattle.history.proofs.Leases.{serial-of}
 use Rattle.history.proofs.Limits.{limits-kept}
@@ -59,29 +59,29 @@ is-not b = go (cases-bool b)
 
 module _ (k : Making) (h : History) where
   abbrev Due-to : Call → Type 0
-  Due-to c = (e : Event) × (call e ≡ c) × Due k h e
+  Due-to c = (e : Event) × (call e ≡ c) × Due (facts k h) e
 
-  refusal : (c : Call) (e : Named) → Refuses k h c e → Due-to c
+  refusal : (c : Call) (e : Named) → Refuses (facts k h) c e → Due-to c
   refusal c e r = (refused c e, refl, r)
 
   is-open : (n : ℕ) → Sure (Is-open h n)
   is-open n = both (is-true _) (is-not (ended h n))
 
-  to-offered : (s : Slip) → Sure (Fits k h Is-offered s)
+  to-offered : (s : Slip) → Sure (Fits (facts k h) (Is-offered h) s)
   to-offered s = both (cases-eq (s .vault) (k .vault)) (both (is-open (s .serial)) (is-not (held h (s .serial))))
 
-  to-held : (s : Slip) → Sure (Fits k h Is-held s)
+  to-held : (s : Slip) → Sure (Fits (facts k h) (Is-held h) s)
   to-held s = both (cases-eq (s .vault) (k .vault)) (both (is-open (s .serial)) (is-true (held h (s .serial))))
 
-  to-draw : (s : Slip) → Sure (Fits k h Is-offered s) → Due-to (draw s)
+  to-draw : (s : Slip) → Sure (Fits (facts k h) (Is-offered h) s) → Due-to (draw s)
   to-draw s (inl f) = (drawn s s, refl, (f, refl))
   to-draw s (inr f) = refusal _ _ (not-to-draw f)
 
-  to-decline : (s : Slip) → Sure (Fits k h Is-offered s) → Due-to (decline s)
+  to-decline : (s : Slip) → Sure (Fits (facts k h) (Is-offered h) s) → Due-to (decline s)
   to-decline s (inl f) = (declined s, refl, f)
   to-decline s (inr f) = refusal _ _ (not-to-decline f)
 
-  to-hand-back : (s : Slip) → Sure (Fits k h Is-held s) → Due-to (hand-back s)
+  to-hand-back : (s : Slip) → Sure (Fits (facts k h) (Is-held h) s) → Due-to (hand-back s)
   to-hand-back s (inl f) = (handed-back s, refl, f)
   to-hand-back s (inr f) = refusal _ _ (not-to-hand-back f)
 

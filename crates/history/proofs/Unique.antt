@@ -19,7 +19,7 @@ use Rattle.checker.proofs.Unique.{one-answer as one-check}
 use Rattle.evaluator.proofs.Unique.{one-evaluation}
 use Rattle.history.specs.Events.{Making, Slip, Call, Event, History, publish, withdraw, certify, adopt, offer, draw, decline, hand-back, published, withdrawn, certified, adopted, offered, drawn, declined, handed-back, refused, call, asked}
 use Rattle.history.specs.Words.{standing, certificate, open-leases, offers-given}
-use Rattle.history.specs.Law.{Due, Refuses, In-range, already-stands, register-full, no-such-place, not-evaluated, not-accepted, out-of-range, no-certificate, is-false, is-undefined, book-full, all-given, not-to-draw, not-to-decline, not-to-hand-back}
+use Rattle.history.specs.Law.{facts, Due, Refuses, In-range, already-stands, register-full, no-such-place, not-evaluated, not-accepted, out-of-range, no-certificate, is-false, is-undefined, book-full, all-given, not-to-draw, not-to-decline, not-to-hand-back}
 use Rattle.history.specs.Theorems.{One-answer, Vaults-agree}
 use Rattle.history.proofs.Asked.{same-asked, in-range}
 use Rattle.history.proofs.Offers.{none-stands, same-verdict}
@@ -65,13 +65,13 @@ module _ (k : Making) (h : History) where
   same-cause a r d n o (by-verdict m t w e f) (by-verdict x u v g l) =
       sym f ∙ ap (λ (y : ℕ). outcome y (open-leases h) (offers-given h)) (same-verdict h m x t u (offer a r d) w v e g) ∙ l
 
-  taken-cause : (a r d : ℕ) (m : Membership) (s : Slip) → asked m ≡ offer a r d → Due k h (offered m s) → Cause a r d 0
+  taken-cause : (a r d : ℕ) (m : Membership) (s : Slip) → asked m ≡ offer a r d → Due (facts k h) (offered m s) → Cause a r d 0
   taken-cause a r d m s q x =
       let o : open-leases h ≡ 256 → ⊥ = omega (arith, x .1) in
       let g : offers-given h ≡ 999999 → ⊥ = omega (arith, x .2) in
       by-verdict m (x .0 .0) q (x .0 .1) (rw (x .0 .2, ne-eqb (open-leases h) 256 o, ne-eqb (offers-given h) 999999 g))
 
-  refused-cause : (a r d : ℕ) (e : Named) → Refuses k h (offer a r d) e → (n : ℕ) × (e ≡ by n) × (5 ≤ n) × Cause a r d n
+  refused-cause : (a r d : ℕ) (e : Named) → Refuses (facts k h) (offer a r d) e → (n : ℕ) × (e ≡ by n) × (5 ≤ n) × Cause a r d n
   refused-cause a r d e (out-of-range x) = (5, refl, omega arith, by-range x)
   refused-cause a r d e (no-certificate x y) = (16, refl, omega arith, by-none x y)
   refused-cause a r d e (is-false m q s) = (17, refl, omega arith, by-verdict m (s .0) q (s .1) (rw (s .2)))
@@ -82,7 +82,7 @@ module _ (k : Making) (h : History) where
       (20, refl, omega arith, by-verdict m (s .0) q (s .1) (rw (s .2, ne-eqb (open-leases h) 256 f, g)))
 
   -- two refusals of one call are the same
-  same-refusal : (c : Call) (e f : Named) → Refuses k h c e → Refuses k h c f → e ≡ f
+  same-refusal : (c : Call) (e f : Named) → Refuses (facts k h) c e → Refuses (facts k h) c f → e ≡ f
   same-refusal (publish c) e f (already-stands a) (already-stands b) = refl
   same-refusal (publish c) e f (already-stands a) (register-full b l) = absurd (b a)
   same-refusal (publish c) e f (register-full a l) (already-stands b) = absurd (a b)
@@ -100,14 +100,14 @@ module _ (k : Making) (h : History) where
 
   -- an event in which a call was taken
   data Takes : Call → Event → Type 0 where
-    takes-publish : {c : Credential} → Due k h (published c) → Takes (publish c) (published c)
-    takes-withdraw : {p : ℕ} → Due k h (withdrawn p) → Takes (withdraw p) (withdrawn p)
-    takes-certify : {b t : Table} {n : ℕ} → Due k h (certified b t n) → Takes (certify b) (certified b t n)
-    takes-adopt : {t : Table} → Due k h (adopted t) → Takes (adopt t) (adopted t)
-    takes-offer : {a r d : ℕ} {m : Membership} {s : Slip} → asked m ≡ offer a r d → Due k h (offered m s) → Takes (offer a r d) (offered m s)
-    takes-draw : {s l : Slip} → Due k h (drawn s l) → Takes (draw s) (drawn s l)
-    takes-decline : {s : Slip} → Due k h (declined s) → Takes (decline s) (declined s)
-    takes-hand-back : {s : Slip} → Due k h (handed-back s) → Takes (hand-back s) (handed-back s)
+    takes-publish : {c : Credential} → Due (facts k h) (published c) → Takes (publish c) (published c)
+    takes-withdraw : {p : ℕ} → Due (facts k h) (withdrawn p) → Takes (withdraw p) (withdrawn p)
+    takes-certify : {b t : Table} {n : ℕ} → Due (facts k h) (certified b t n) → Takes (certify b) (certified b t n)
+    takes-adopt : {t : Table} → Due (facts k h) (adopted t) → Takes (adopt t) (adopted t)
+    takes-offer : {a r d : ℕ} {m : Membership} {s : Slip} → asked m ≡ offer a r d → Due (facts k h) (offered m s) → Takes (offer a r d) (offered m s)
+    takes-draw : {s l : Slip} → Due (facts k h) (drawn s l) → Takes (draw s) (drawn s l)
+    takes-decline : {s : Slip} → Due (facts k h) (declined s) → Takes (decline s) (declined s)
+    takes-hand-back : {s : Slip} → Due (facts k h) (handed-back s) → Takes (hand-back s) (handed-back s)
 
   same-taken : (c : Call) (e f : Event) → Takes c e → Takes c f → e ≡ f
   same-taken (publish c) e f (takes-publish x) (takes-publish y) = refl
@@ -122,7 +122,7 @@ module _ (k : Making) (h : History) where
   same-taken (hand-back s) e f (takes-hand-back x) (takes-hand-back y) = refl
 
   -- no call is both taken and refused
-  taken-refused : (c : Call) (e : Event) (f : Named) → Takes c e → Refuses k h c f → ⊥
+  taken-refused : (c : Call) (e : Event) (f : Named) → Takes c e → Refuses (facts k h) c f → ⊥
   taken-refused (publish c) e f (takes-publish x) (already-stands a) = x .0 a
   taken-refused (publish c) e f (takes-publish x) (register-full a l) = omega (arith, l, x .1)
   taken-refused (withdraw w) e f (takes-withdraw x) (no-such-place a) = a x
@@ -138,9 +138,9 @@ module _ (k : Making) (h : History) where
   -- a call with its answer
   data Answers (c : Call) (e : Event) : Type 0 where
     takes : Takes c e → Answers c e
-    refuses : (f : Named) → e ≡ refused c f → Refuses k h c f → Answers c e
+    refuses : (f : Named) → e ≡ refused c f → Refuses (facts k h) c f → Answers c e
 
-  answers : (e : Event) → Due k h e → Answers (call e) e
+  answers : (e : Event) → Due (facts k h) e → Answers (call e) e
   answers (published c) x = takes (takes-publish x)
   answers (withdrawn p) x = takes (takes-withdraw x)
   answers (certified b t n) x = takes (takes-certify x)

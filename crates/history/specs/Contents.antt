@@ -13,7 +13,7 @@ use Rattle.credential.specs.Memberships.{place}
 use Rattle.model.specs.Tables.{Table, verdict}
 use Rattle.history.specs.Events.{Kind, Making, Event, History, published, withdrawn, certified, adopted, offered, drawn, declined, handed-back, refused, call, Has-call}
 use Rattle.history.specs.Words.{total, Holds-at, standing, certificate, Lease, open-by, open-leases, offers-given, Is-offered, Is-held, for, given, declined-of, handed-back-of}
-use Rattle.history.specs.Law.{Due, Conforms}
+use Rattle.history.specs.Law.{facts, Due, Conforms}
 
 -- a record of the book: free, or with a lease that is offered or held
 pub data Entry : Type 0 where
@@ -154,7 +154,7 @@ Calls-keep =
     (k : Making) (h : History) (v w : Contents) (e : Event)
     → Keeps k h v
     → Has-call (k .kind) (call e)
-    → Due k h e
+    → Due (facts k h) e
     → After v e w
     → Keeps k (e ∷ h) w
 

@@ -1,7 +1,7 @@
 -- The law: when a call is taken and what it then gives, and by which refusal it is refused.
 use mathlib.Core.Path.{_≡_}
-use mathlib.Core.List.{[], _∷_}
-use mathlib.Core.Option.{none, some}
+use mathlib.Core.List.{List, [], _∷_}
+use mathlib.Core.Option.{Option, none, some}
 use Prim.Native.Nat.{ℕ, suc, _≤_, _<_}
 use lib.ListN.{length}
 use Rattle.std.specs.declared.result.Result.the-variants.{Ok, Err}
@@ -19,55 +19,80 @@ use Rattle.history.specs.Words.{standing, certificate, open-leases, offers-giv
 abbrev pub In-range : ℕ → ℕ → ℕ → Type 0
 In-range a r d = ((1 ≤ a) × (a ≤ 32)) × ((1 ≤ r) × (r ≤ 16)) × ((1 ≤ d) × (d ≤ 32))
 
+-- the facts that a call is judged by
+pub record Facts : Type 1 where
+  pub vault : ℕ
+  pub capacity : ℕ
+  pub list : List Credential
+  pub certificate : Option Table
+  pub opens : ℕ
+  pub givens : ℕ
+  pub Offered : ℕ → Type 0
+  pub Held : ℕ → Type 0
+
+-- those of a history
+abbrev pub facts : Making → History → Facts
+facts k h =
+    record {
+      vault = k .vault;
+      capacity = k .capacity;
+      list = standing k h;
+      certificate = certificate h;
+      opens = open-leases h;
+      givens = offers-given h;
+      Offered = Is-offered h;
+      Held = Is-held h;
+    }
+
 -- the slip is this vault's and its lease is in the state that the call needs
-abbrev pub Fits : Making → History → (History → ℕ → Type 0) → Slip → Type 0
-Fits k h In-state s = (s .vault ≡ k .vault) × In-state h (s .serial)
+abbrev pub Fits : Facts → (ℕ → Type 0) → Slip → Type 0
+Fits f In-state s = (s .vault ≡ f .vault) × In-state (s .serial)
 
 -- the certificate that stands has this verdict for the membership
-abbrev pub Stands : History → (Table → Membership → Type 0) → Membership → Type 0
-Stands h Is m = (t : Table) × (certificate h ≡ some t) × Is t m
+abbrev pub Stands : Facts → (Table → Membership → Type 0) → Membership → Type 0
+Stands f Is m = (t : Table) × (f .certificate ≡ some t) × Is t m
 
 -- a call is refused by its condition, those before it not holding
-pub data Refuses (k : Making) (h : History) : Call → Named → Type 0 where
-  already-stands : {c : Credential} → Among c (standing k h) → Refuses k h (publish c) (refused 6)
-  register-full : {c : Credential} → ¬ (Among c (standing k h)) → length (standing k h) ≡ k .capacity → Refuses k h (publish c) (refused 7)
-  no-such-place : {p : ℕ} → ¬ ((1 ≤ p) × (p ≤ length (standing k h))) → Refuses k h (withdraw p) (refused 8)
+pub data Refuses (f : Facts) : Call → Named → Type 0 where
+  already-stands : {c : Credential} → Among c (f .list) → Refuses f (publish c) (refused 6)
+  register-full : {c : Credential} → ¬ (Among c (f .list)) → length (f .list) ≡ f .capacity → Refuses f (publish c) (refused 7)
+  no-such-place : {p : ℕ} → ¬ ((1 ≤ p) × (p ≤ length (f .list))) → Refuses f (withdraw p) (refused 8)
   -- as evaluate answers over the standing credentials
-  not-evaluated : {b : Table} {e : Named} (t : Table) → Evaluated (standing k h) b (Err e) t → Refuses k h (certify b) e
+  not-evaluated : {b : Table} {e : Named} (t : Table) → Evaluated (f .list) b (Err e) t → Refuses f (certify b) e
   -- as check answers over the standing credentials
-  not-accepted : {t : Table} {e : Named} → Checked (standing k h) t (Err e) → Refuses k h (adopt t) e
-  out-of-range : {a r d : ℕ} → ¬ (In-range a r d) → Refuses k h (offer a r d) (refused 5)
-  no-certificate : {a r d : ℕ} → In-range a r d → certificate h ≡ none → Refuses k h (offer a r d) (refused 16)
-  is-false : {a r d : ℕ} (m : Membership) → asked m ≡ offer a r d → Stands h Is-F m → Refuses k h (offer a r d) (refused 17)
-  is-undefined : {a r d : ℕ} (m : Membership) → asked m ≡ offer a r d → Stands h Is-U m → Refuses k h (offer a r d) (refused 18)
-  book-full : {a r d : ℕ} (m : Membership) → asked m ≡ offer a r d → Stands h Is-T m → open-leases h ≡ 256 → Refuses k h (offer a r d) (refused 19)
+  not-accepted : {t : Table} {e : Named} → Checked (f .list) t (Err e) → Refuses f (adopt t) e
+  out-of-range : {a r d : ℕ} → ¬ (In-range a r d) → Refuses f (offer a r d) (refused 5)
+  no-certificate : {a r d : ℕ} → In-range a r d → f .certificate ≡ none → Refuses f (offer a r d) (refused 16)
+  is-false : {a r d : ℕ} (m : Membership) → asked m ≡ offer a r d → Stands f Is-F m → Refuses f (offer a r d) (refused 17)
+  is-undefined : {a r d : ℕ} (m : Membership) → asked m ≡ offer a r d → Stands f Is-U m → Refuses f (offer a r d) (refused 18)
+  book-full : {a r d : ℕ} (m : Membership) → asked m ≡ offer a r d → Stands f Is-T m → f .opens ≡ 256 → Refuses f (offer a r d) (refused 19)
   all-given : {a r d : ℕ} (m : Membership)
       → asked m ≡ offer a r d
-      → Stands h Is-T m
-      → open-leases h < 256
-      → offers-given h ≡ 999999
-      → Refuses k h (offer a r d) (refused 20)
-  not-to-draw : {s : Slip} → ¬ (Fits k h Is-offered s) → Refuses k h (draw s) (refused 21)
-  not-to-decline : {s : Slip} → ¬ (Fits k h Is-offered s) → Refuses k h (decline s) (refused 21)
-  not-to-hand-back : {s : Slip} → ¬ (Fits k h Is-held s) → Refuses k h (hand-back s) (refused 21)
+      → Stands f Is-T m
+      → f .opens < 256
+      → f .givens ≡ 999999
+      → Refuses f (offer a r d) (refused 20)
+  not-to-draw : {s : Slip} → ¬ (Fits f (f .Offered) s) → Refuses f (draw s) (refused 21)
+  not-to-decline : {s : Slip} → ¬ (Fits f (f .Offered) s) → Refuses f (decline s) (refused 21)
+  not-to-hand-back : {s : Slip} → ¬ (Fits f (f .Held) s) → Refuses f (hand-back s) (refused 21)
 
--- the event was due after that history
-abbrev pub Due : Making → History → Event → Type 0
-Due k h (published c) = (¬ (Among c (standing k h))) × (length (standing k h) < k .capacity)
-Due k h (withdrawn p) = (1 ≤ p) × (p ≤ length (standing k h))
-Due k h (certified b t n) = Evaluated (standing k h) b (Ok n) t
-Due k h (adopted t) = Checked (standing k h) t (Ok tt)
-Due k h (offered m s) =
-    Stands h Is-T m
-    × (open-leases h < 256)
-    × (offers-given h < 999999)
-    × (s ≡ record { vault = k .vault; serial = suc (offers-given h) })
-Due k h (drawn s l) = Fits k h Is-offered s × (l ≡ s)
-Due k h (declined s) = Fits k h Is-offered s
-Due k h (handed-back s) = Fits k h Is-held s
-Due k h (was-refused c e) = Refuses k h c e
+-- the event was due by these facts
+abbrev pub Due : Facts → Event → Type 0
+Due f (published c) = (¬ (Among c (f .list))) × (length (f .list) < f .capacity)
+Due f (withdrawn p) = (1 ≤ p) × (p ≤ length (f .list))
+Due f (certified b t n) = Evaluated (f .list) b (Ok n) t
+Due f (adopted t) = Checked (f .list) t (Ok tt)
+Due f (offered m s) =
+    Stands f Is-T m
+    × (f .opens < 256)
+    × (f .givens < 999999)
+    × (s ≡ record { vault = f .vault; serial = suc (f .givens) })
+Due f (drawn s l) = Fits f (f .Offered) s × (l ≡ s)
+Due f (declined s) = Fits f (f .Offered) s
+Due f (handed-back s) = Fits f (f .Held) s
+Due f (was-refused c e) = Refuses f c e
 
 -- every event answers a call of that kind of vault, and was due when it happened
 abbrev pub Conforms : Making → History → Type 0
 Conforms k [] = Unit {0}
-Conforms k (e ∷ h) = Conforms k h × Has-call (k .kind) (call e) × Due k h e
+Conforms k (e ∷ h) = Conforms k h × Has-call (k .kind) (call e) × Due (facts k h) e

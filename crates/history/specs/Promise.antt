@@ -12,7 +12,7 @@ use Rattle.model.specs.Tables.{Table, number}
 use Rattle.model.specs.Theorems.{Shows-the-model, Same-members}
 use Rattle.history.specs.Events.{Making, Event, History, adopt, certified, adopted, refused, call, asked, Taken, Has-call}
 use Rattle.history.specs.Words.{Holds-at, standing, certificate, Lease, leases, ended, held, open-leases, offers-given, given, declined-of, handed-back-of}
-use Rattle.history.specs.Law.{Due, Conforms}
+use Rattle.history.specs.Law.{facts, Due, Conforms}
 use Rattle.history.specs.Contents.{Contents, record-of, in-book, Keeps}
 use Rattle.history.specs.Statement.{statement, statement-by}
 
@@ -26,7 +26,7 @@ Open-lease h l s = ((i : ℕ) × Holds-at (leases h) i l) × (ended h (l .serial
 
 pub record Promise (k : Making) (h : History) (v : Contents) : Type 0 where
   -- every call was answered as the conditions say, judged by the making, the calls before it and what it brought, and no other answer was due
-  pub answers-due : (g : History) (e f : Event) → Past (e ∷ g) h → Has-call (k .kind) (call e) × Due k g e × (Due k g f → call f ≡ call e → f ≡ e)
+  pub answers-due : (g : History) (e f : Event) → Past (e ∷ g) h → Has-call (k .kind) (call e) × Due (facts k g) e × (Due (facts k g) f → call f ≡ call e → f ≡ e)
   -- while a certificate stood, an offer within the limits was taken exactly when the model of the credentials then standing made the membership true
   pub offers-follow : (g : History) (e : Event) (m : Membership) (t : Table)
       → Past (e ∷ g) h

@@ -16,11 +16,11 @@ use Rattle.checker.specs.Checks.{Checked}
 use Rattle.evaluator.specs.Evaluations.{Evaluated}
 use Rattle.history.specs.Events.{Making, Call, Event, History, publish, withdraw, certify, adopt, offer, draw, decline, hand-back, certified, adopted, refused, call, asked, Taken}
 use Rattle.history.specs.Words.{standing, certificate, Lease, leases, open-leases, offers-given, given, declined-of, handed-back-of, open-of}
-use Rattle.history.specs.Law.{Due, Conforms}
+use Rattle.history.specs.Law.{facts, Due, Conforms}
 
 -- one answer is due to a call
 abbrev pub One-answer : Type 0
-One-answer = (k : Making) (h : History) (e f : Event) → Due k h e → Due k h f → call e ≡ call f → e ≡ f
+One-answer = (k : Making) (h : History) (e f : Event) → Due (facts k h) e → Due (facts k h) f → call e ≡ call f → e ≡ f
 
 -- what a vault finds out for a call: whether the credential stands, what evaluate leaves and answers, what check answers
 abbrev pub Found : Making → History → Call → Type 0
@@ -35,7 +35,7 @@ Found k h (hand-back s) = Unit {0}
 
 -- an answer is due to every call
 abbrev pub Some-answer : Type 0
-Some-answer = (k : Making) (h : History) → Conforms k h → (c : Call) → Found k h c → (e : Event) × (call e ≡ c) × Due k h e
+Some-answer = (k : Making) (h : History) → Conforms k h → (c : Call) → Found k h c → (e : Event) × (call e ≡ c) × Due (facts k h) e
 
 -- while a certificate stands, an offer within the limits is taken exactly when the model of the standing credentials makes the membership true
 abbrev pub Offers-follow : Type 0
@@ -71,9 +71,9 @@ Vaults-agree =
     (k l : Making) (g h : History) (b t : Table) (n : ℕ)
     → Conforms k (certified b t n ∷ g)
     → Same-members (standing k g) (standing l h)
-    → Due l h (adopted t)
-    × ((e : Event) → Due l h e → call e ≡ adopt t → e ≡ adopted t)
-    × ((u : Table) → Due l h (adopted u) → (m : Membership) → (verdict u m ≡ verdict t m) × (number t m ≤ number u m))
+    → Due (facts l h) (adopted t)
+    × ((e : Event) → Due (facts l h) e → call e ≡ adopt t → e ≡ adopted t)
+    × ((u : Table) → Due (facts l h) (adopted u) → (m : Membership) → (verdict u m ≡ verdict t m) × (number t m ≤ number u m))
 
 -- for any weight of a lease, what was given is what was declined, what was handed back and what is open
 abbrev pub Balances : Type 0
