@@ -11,3 +11,4 @@ pub mod Reading
 pub mod Recording
 pub mod Stating
 pub mod Promises
+pub mod Judging

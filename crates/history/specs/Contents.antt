@@ -10,10 +10,10 @@ use Rattle.credential.specs.declared.credentials.Credential.{Credential}
 use Rattle.credential.specs.declared.memberships.Membership.{Membership}
 use Rattle.credential.specs.declared.numbers.RoleName.{RoleName}
 use Rattle.credential.specs.Memberships.{place}
-use Rattle.model.specs.Tables.{Table, verdict}
+use Rattle.model.specs.Tables.{Table, table, verdict}
 use Rattle.history.specs.Events.{Kind, Making, Event, History, published, withdrawn, certified, adopted, offered, drawn, declined, handed-back, refused, call, Has-call}
 use Rattle.history.specs.Words.{total, Holds-at, standing, certificate, Lease, open-by, open-leases, offers-given, Is-offered, Is-held, for, given, declined-of, handed-back-of}
-use Rattle.history.specs.Law.{facts, Due, Conforms}
+use Rattle.history.specs.Law.{Facts, facts, Due, Conforms}
 
 -- a record of the book: free, or with a lease that is offered or held
 pub data Entry : Type 0 where
@@ -171,3 +171,30 @@ pub record Says (k : Making) (h : History) (v : Contents) : Type 0 where
 
 abbrev pub Contents-say : Type 0
 Contents-say = (k : Making) (h : History) (v : Contents) → Keeps k h v → Says k h v
+
+-- a certificate of which the verdicts alone are kept
+abbrev pub certificate-of : Option (List ℕ) → Option Table
+certificate-of none = none
+certificate-of (some vs) = some (table vs [])
+
+-- the facts as the contents show them
+abbrev pub seen : Contents → Facts
+seen v =
+    record {
+      vault = v .number;
+      capacity = v .capacity;
+      list = v .list;
+      certificate = certificate-of (v .kept);
+      opens = in-book (λ l b. 1) (v .book);
+      givens = v .figures .total;
+      Offered = λ n. (i : ℕ) × (l : Lease) × Record-of is-offered (v .book) n i l;
+      Held = λ n. (i : ℕ) × (l : Lease) × Record-of is-held (v .book) n i l;
+    }
+
+-- one more event of every history that the contents kept
+abbrev pub Stepped : Contents → Event → Contents → Type 0
+Stepped v e w = (k : Making) (h : History) → Keeps k h v → Keeps k (e ∷ h) w
+
+-- a call that was due by what the vault held is such a step
+abbrev pub Steps-keep : Type 0
+Steps-keep = (v w : Contents) (e : Event) → Has-call (v .kind) (call e) → Due (seen v) e → After v e w → Stepped v e w

@@ -1,5 +1,5 @@
 // The law over a vault's whole history, and what follows from it: specs/ says both.
-ghost use Rattle.history.specs.Contents.{Making-keeps, Calls-keep, Contents-say};
+ghost use Rattle.history.specs.Contents.{Making-keeps, Calls-keep, Contents-say, Steps-keep};
 ghost use Rattle.history.specs.Promise.{Promise-met};
 ghost use Rattle.history.specs.Theorems.{Balances, Serials-rise, Limits-kept, One-answer, Some-answer, Offers-follow, Refusals-follow, Tables-model, Vaults-agree};
 
@@ -25,6 +25,7 @@ pub fn contents_hold()
     ensures making { λ _. ⌜ Making-keeps ⌝ }
     ensures calls { λ _. ⌜ Calls-keep ⌝ }
     ensures words { λ _. ⌜ Contents-say ⌝ }
+    ensures steps { λ _. ⌜ Steps-keep ⌝ }
 {}
 
 // Contents that agree with a history meet the whole promise about it.
