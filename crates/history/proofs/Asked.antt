@@ -1,9 +1,8 @@
 -- The numbers of an offer tell its membership.
-use mathlib.Core.Path.{_≡_, refl, sym, ap, _∙_}
-use Prim.Native.Nat.{ℕ, _≤_}
+use mathlib.Core.Path.{_≡_, ap}
+use Prim.Native.Nat.{ℕ}
 use native.Mathlib.Omega.{arith}
 use Rattle.credential.specs.declared.memberships.Membership.{Membership}
-use Rattle.credential.specs.Memberships.{place}
 use Rattle.model.proofs.Places.{same-place}
 use Rattle.history.specs.Events.{Call, publish, withdraw, certify, adopt, offer, draw, decline, hand-back, asked}
 use Rattle.history.specs.Law.{In-range}

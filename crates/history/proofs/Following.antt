@@ -1,6 +1,5 @@
 -- An offer follows the model of the standing credentials.
-use mathlib.Core.Path.{_≡_, refl, sym, _∙_, subst, ap}
-use mathlib.Core.List.{_∷_}
+use mathlib.Core.Path.{_≡_, refl, sym, _∙_, subst}
 use mathlib.Core.Option.{some}
 use mathlib.Core.Logic.{_↔_}
 use Prim.Native.Nat.{ℕ, suc}
@@ -14,7 +13,6 @@ use Rattle.history.specs.Events.{Making, Call, Event, History, publish, withdr
 use Rattle.history.specs.Words.{standing, certificate, offers-given}
 use Rattle.history.specs.Law.{facts, Due, Refuses, out-of-range, no-certificate, is-false, is-undefined, book-full, all-given}
 use Rattle.history.specs.Theorems.{Offers-follow, Refusals-follow}
-use Rattle.history.proofs.Asked.{same-asked}
 use Rattle.history.proofs.Offers.{stands-certified, same-verdict}
 use Rattle.history.proofs.Unique.{one-answer}
 

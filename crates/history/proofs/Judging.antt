@@ -1,13 +1,13 @@
 -- What is due by the contents is due by the history that they keep.
-use mathlib.Core.Path.{_≡_, refl, sym, ap, _∙_, subst}
-use mathlib.Core.List.{List, []}
+use mathlib.Core.Path.{_≡_, refl, ap, _∙_, subst}
+use mathlib.Core.List.{[]}
 use mathlib.Core.Option.{Option, none, some}
 use Prim.Native.Nat.{ℕ}
 use native.Mathlib.Omega.{arith}
 use Rattle.credential.specs.declared.memberships.Membership.{Membership}
 use Rattle.credential.specs.Refusals.{Named}
 use Rattle.model.specs.Tables.{Table, table, verdict}
-use Rattle.history.specs.Events.{Making, Slip, Call, Event, History, publish, withdraw, certify, adopt, offer, draw, decline, hand-back, published, withdrawn, certified, adopted, offered, drawn, declined, handed-back, refused, call, Has-call}
+use Rattle.history.specs.Events.{Making, Call, Event, History, publish, withdraw, certify, adopt, offer, draw, decline, hand-back, published, withdrawn, certified, adopted, offered, drawn, declined, handed-back, refused, call, Has-call}
 use Rattle.history.specs.Words.{Lease, standing, certificate, open-leases, offers-given}
 use Rattle.history.specs.Law.{Facts, facts, Due, Refuses, already-stands, register-full, no-such-place, not-evaluated, not-accepted, out-of-range, no-certificate, is-false, is-undefined, book-full, all-given, not-to-draw, not-to-decline, not-to-hand-back}
 use Rattle.history.specs.Contents.{Contents, is-offered, is-held, verdicts-of, certificate-of, seen, Record-of, Keeps, Says, Steps-keep}

@@ -2,16 +2,16 @@
 use mathlib.Core.Path.{_≡_, refl, sym, ap, _∙_, subst}
 use mathlib.Core.List.{List, [], _∷_, _++_, map}
 use mathlib.Core.Bool.{Bool, true, false, cond, _||_}
-use Prim.Native.Nat.{ℕ, zero, suc, _+_, _-_, _≤_, _<_}
+use Prim.Native.Nat.{ℕ, zero, suc, _+_, _-_, _≤_}
 use native.Mathlib.Omega.{arith}
 use lib.Dec.{eqb}
-use lib.ListN.{length, getD, set, take, drop, replicate}
+use lib.ListN.{length, getD, take, drop, replicate}
 use Rattle.std.proofs.shelf.Tests.{eqb-true, eqb-false, eq-eqb}
 use Rattle.std.proofs.shelf.Lists.{length-set, getD-set-same, getD-set-other}
 use Rattle.credential.specs.declared.numbers.RoleName.{RoleName}
 use Rattle.history.specs.Events.{Making, Slip, History, published, withdrawn, certified, adopted, offered, drawn, declined, handed-back, refused}
 use Rattle.history.specs.Words.{total, Holds-at, one-if, among, Lease, leases, declines, hand-backs, ended, held, open-by, offers-given, weight-of, for}
-use Rattle.history.specs.Contents.{Entry, is-free, is-offered, is-held, Contents, record-of, opened, in-book, figure, one-more, Tells, Keeps, made, Making-keeps, Calls-keep}
+use Rattle.history.specs.Contents.{is-free, is-offered, is-held, Contents, record-of, opened, in-book, figure, one-more, Tells, Keeps, made, Making-keeps, Calls-keep}
 use Rattle.history.proofs.Sums.{total-le, total-balance, total-set, total-at}
 use Rattle.history.proofs.Leases.{serial-of, weighed, the-lease, Orderly, orderly, ends-one, not-ended, new-open, new-not-held, summed-before, declined-ends, handed-back-ends}
 

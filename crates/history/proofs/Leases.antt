@@ -1,8 +1,7 @@
 -- Serials rise by one, and every lease is declined, handed back or open.
-use mathlib.Core.Path.{_≡_, refl, sym, ap, ap₂, _∙_, subst}
+use mathlib.Core.Path.{_≡_, refl, sym, ap, ap₂, subst}
 use mathlib.Core.List.{List, [], _∷_, map}
 use mathlib.Core.Bool.{Bool, true, false, cond, _||_}
-use mathlib.Core.Logic.{_⊎_, inl, inr}
 use Prim.Native.Nat.{ℕ, suc, _+_, _≤_, _<_}
 use native.Mathlib.Omega.{arith}
 use lib.Dec.{eqb}
@@ -11,7 +10,7 @@ use Rattle.std.proofs.shelf.Tests.{false≢true, eqb-true, eqb-false, eq-eqb, n
 use Rattle.std.proofs.shelf.Elements.{all-weaker}
 use Rattle.std.specs.shelf.Lists.{All}
 use Rattle.history.specs.Events.{Making, Slip, History, published, withdrawn, certified, adopted, offered, drawn, declined, handed-back, refused}
-use Rattle.history.specs.Words.{total, among, Lease, leases, draws, declines, hand-backs, ended, held, Is-open, weight-of, given, declined-of, handed-back-of, open-of, offers-given}
+use Rattle.history.specs.Words.{total, among, Lease, leases, draws, declines, hand-backs, ended, held, Is-open, weight-of, offers-given}
 use Rattle.history.specs.Law.{Conforms}
 use Rattle.history.specs.Theorems.{falling, Balances, Serials-rise}
 use Rattle.history.proofs.Sums.{total-zero, total-same-all, total-balance}

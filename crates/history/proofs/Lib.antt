@@ -12,3 +12,4 @@ pub mod Recording
 pub mod Stating
 pub mod Promises
 pub mod Judging
+pub mod Examples

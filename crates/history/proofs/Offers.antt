@@ -1,6 +1,6 @@
 -- A table that was accepted, or that stands, is the model's.
-use mathlib.Core.Path.{_≡_, refl, sym, ap, _∙_, subst}
-use mathlib.Core.List.{List, [], _∷_}
+use mathlib.Core.Path.{_≡_, refl, sym, _∙_, subst}
+use mathlib.Core.List.{[], _∷_}
 use mathlib.Core.Option.{Option, none, some}
 use Prim.Native.Nat.{ℕ}
 use native.Mathlib.Omega.{arith}
@@ -10,7 +10,7 @@ use Rattle.model.proofs.Soundness.{certificates-show-the-model}
 use Rattle.model.proofs.Leastness.{least-certificate-certifies}
 use Rattle.history.specs.Events.{Making, Call, History, published, withdrawn, certified, adopted, offered, drawn, declined, handed-back, refused, asked}
 use Rattle.history.specs.Words.{standing, certificate}
-use Rattle.history.specs.Law.{Conforms, Stands}
+use Rattle.history.specs.Law.{Conforms}
 use Rattle.history.specs.Theorems.{Tables-model}
 use Rattle.history.proofs.Asked.{same-asked}
 

@@ -1,10 +1,9 @@
 -- The whole promise, from the agreement of contents and history.
-use mathlib.Core.Path.{_≡_, refl, sym, ap, _∙_, subst}
+use mathlib.Core.Path.{_≡_, sym, subst}
 use mathlib.Core.List.{List, [], _∷_, _++_}
-use Prim.Native.Nat.{ℕ, _≤_}
+use Prim.Native.Nat.{ℕ}
 use native.Mathlib.Omega.{arith}
-use Rattle.credential.specs.declared.numbers.RoleName.{RoleName}
-use Rattle.history.specs.Events.{Making, Event, History, certified, adopted}
+use Rattle.history.specs.Events.{Making, History, certified, adopted}
 use Rattle.history.specs.Words.{for, given, declined-of, handed-back-of, open-of}
 use Rattle.history.specs.Law.{facts, Due, Conforms}
 use Rattle.history.specs.Contents.{Contents, figure, in-book, Tells, Keeps}

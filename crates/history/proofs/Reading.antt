@@ -2,21 +2,19 @@
 use mathlib.Core.Path.{_≡_, refl, sym, ap, _∙_, subst}
 use mathlib.Core.List.{List, [], _∷_, map}
 use mathlib.Core.Option.{Option, none, some}
-use mathlib.Core.Bool.{Bool, true, false, cond, not, _&&_, _||_}
-use mathlib.Core.Logic.{_⊎_, inl, inr}
-use Prim.Native.Nat.{ℕ, zero, suc, _+_, _≤_, _<_}
+use mathlib.Core.Bool.{Bool, true, false, cond, _&&_}
+use Prim.Native.Nat.{ℕ, zero, suc, _≤_, _<_}
 use native.Mathlib.Nat.{not-suc-le-zero, le-of-suc-le-suc}
 use native.Mathlib.Omega.{arith}
 use lib.Dec.{eqb}
-use lib.ListN.{length, getD}
-use Rattle.std.proofs.shelf.Tests.{false≢true, eqb-true, eq-eqb, and-parts, and-from, cases-order, or-right, cases-bool}
+use lib.ListN.{getD}
+use Rattle.std.proofs.shelf.Tests.{false≢true, eqb-true, eq-eqb, and-parts, or-right}
 use Rattle.credential.specs.declared.memberships.Membership.{Membership}
 use Rattle.credential.specs.Memberships.{place}
 use Rattle.model.specs.Tables.{Table, verdict}
-use Rattle.model.proofs.Places.{same-place}
 use Rattle.history.specs.Events.{Making, History}
-use Rattle.history.specs.Words.{total, Holds-at, one-if, among, certificate, Lease, leases, ended, held, open-by, open-leases, Is-open, Is-offered, Is-held}
-use Rattle.history.specs.Contents.{Entry, is-free, is-offered, is-held, Contents, record-of, opened, verdicts-of, First-free, Record-of, Keeps, Says, Contents-say}
+use Rattle.history.specs.Words.{Holds-at, one-if, among, certificate, Lease, leases, ended, held, open-by, open-leases, Is-open}
+use Rattle.history.specs.Contents.{Entry, is-free, is-offered, is-held, Contents, record-of, opened, verdicts-of, First-free, Keeps, Contents-say}
 use Rattle.history.proofs.Sums.{total-le, total-at, one-at, first-without}
 use Rattle.history.proofs.Leases.{serial-of, the-lease, orderly, weighed, not-ended}
 use Rattle.history.proofs.Keeping.{opened-of}

@@ -1,22 +1,21 @@
 -- The book has one record for each open lease, and no other.
 use mathlib.Core.Path.{_≡_, refl, sym, ap, _∙_, subst}
-use mathlib.Core.List.{List, [], _∷_, map}
-use mathlib.Core.Bool.{Bool, true, false, cond, _&&_}
+use mathlib.Core.List.{List, [], _∷_}
+use mathlib.Core.Bool.{Bool, false, cond, _&&_}
 use mathlib.Core.Logic.{_⊎_, inl, inr}
 use Prim.Native.Nat.{ℕ, zero, suc, _+_, _≤_, _<_}
 use native.Mathlib.Nat.{not-suc-le-zero, le-of-suc-le-suc}
 use native.Mathlib.Omega.{arith}
 use lib.Dec.{eqb}
-use lib.ListN.{length}
 use Rattle.std.proofs.shelf.Tests.{eqb-true, eq-eqb, and-parts, cases-order}
 use Rattle.credential.specs.Memberships.{place}
 use Rattle.model.proofs.Places.{same-place}
 use Rattle.history.specs.Events.{Making, History}
-use Rattle.history.specs.Words.{total, Holds-at, one-if, among, Lease, leases, ended, held}
-use Rattle.history.specs.Contents.{Contents, record-of, opened, in-book, Keeps}
+use Rattle.history.specs.Words.{total, Holds-at, one-if, Lease, leases, ended, held}
+use Rattle.history.specs.Contents.{Contents, record-of, opened, Keeps}
 use Rattle.history.specs.Promise.{Open-lease}
 use Rattle.history.proofs.Sums.{total-at}
-use Rattle.history.proofs.Leases.{serial-of, weighed, the-lease, orderly}
+use Rattle.history.proofs.Leases.{weighed, the-lease, orderly}
 use Rattle.history.proofs.Keeping.{opened-of, in-book-most}
 use Rattle.history.proofs.Reading.{yes-if, same-bool, find-record, find-lease, from-record}
 

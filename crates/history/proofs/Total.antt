@@ -1,6 +1,5 @@
 -- An answer is due to every call.
 use mathlib.Core.Path.{_≡_, refl}
-use mathlib.Core.List.{List, [], _∷_}
 use mathlib.Core.Option.{Option, none, some}
 use mathlib.Core.Bool.{Bool, true, false}
 use mathlib.Core.Logic.{_⊎_, inl, inr}
@@ -14,10 +13,9 @@ use Rattle.credential.specs.declared.memberships.Membership.{Membership}
 use Rattle.credential.specs.Refusals.{Named}
 use Rattle.model.specs.Tables.{Table, Is-T, Is-F, Is-U}
 use Rattle.history.specs.Events.{Making, Slip, Call, Event, History, publish, withdraw, certify, adopt, offer, draw, decline, hand-back, published, withdrawn, certified, adopted, offered, drawn, declined, handed-back, refused, call, asked}
-use Rattle.history.specs.Words.{standing, certificate, among, Lease, leases, ended, held, open-leases, offers-given, Is-open, Is-offered, Is-held}
+use Rattle.history.specs.Words.{standing, certificate, ended, held, open-leases, offers-given, Is-open, Is-offered, Is-held}
 use Rattle.history.specs.Law.{facts, Due, Conforms, Refuses, In-range, Fits, already-stands, register-full, no-such-place, not-evaluated, not-accepted, out-of-range, no-certificate, is-false, is-undefined, book-full, all-given, not-to-draw, not-to-decline, not-to-hand-back}
 use Rattle.history.specs.Theorems.{Found, Some-answer}
-use Rattle.history.proofs.Leases.{serial-of}
 use Rattle.history.proofs.Limits.{limits-kept}
 use Rattle.history.proofs.Offers.{stands-certified}
 

@@ -5,3 +5,4 @@ pub mod Theorems
 pub mod Contents
 pub mod Statement
 pub mod Promise
+pub mod Example

@@ -1,5 +1,6 @@
 // The law over a vault's whole history, and what follows from it: specs/ says both.
 ghost use Rattle.history.specs.Contents.{Making-keeps, Calls-keep, Contents-say, Steps-keep};
+ghost use Rattle.history.specs.Example.{Example};
 ghost use Rattle.history.specs.Promise.{Promise-met};
 ghost use Rattle.history.specs.Theorems.{Balances, Serials-rise, Limits-kept, One-answer, Some-answer, Offers-follow, Refusals-follow, Tables-model, Vaults-agree};
 
@@ -31,4 +32,9 @@ pub fn contents_hold()
 // Contents that agree with a history meet the whole promise about it.
 pub fn promise_holds()
     ensures { λ _. ⌜ Promise-met ⌝ }
+{}
+
+// A worked history conforms, and its statement has two lines.
+pub fn example_holds()
+    ensures { λ _. ⌜ Example ⌝ }
 {}
