@@ -7,7 +7,7 @@ use Rattle.model.proofs.Places.{same-place}
 use Rattle.history.specs.Events.{Call, publish, withdraw, certify, adopt, offer, draw, decline, hand-back, asked}
 use Rattle.history.specs.Law.{In-range}
 
-abbrev pub numbers-of : Call → ℕ × ℕ × ℕ
+abbrev numbers-of : Call → ℕ × ℕ × ℕ
 numbers-of (publish c) = (0, 0, 0)
 numbers-of (withdraw p) = (0, 0, 0)
 numbers-of (certify b) = (0, 0, 0)
@@ -18,7 +18,7 @@ numbers-of (decline s) = (0, 0, 0)
 numbers-of (hand-back s) = (0, 0, 0)
 
 -- memberships of the same numbers are the same
-pub same-membership : (m n : Membership) → m .role .owner .number ≡ n .role .owner .number → m .role .name .number ≡ n .role .name .number → m .member .number ≡ n .member .number → m ≡ n
+same-membership : (m n : Membership) → m .role .owner .number ≡ n .role .owner .number → m .role .name .number ≡ n .role .name .number → m .member .number ≡ n .member .number → m ≡ n
 same-membership m n a r d = same-place m n (omega (arith, a, r, d))
 
 pub same-asked : (m n : Membership) → asked m ≡ asked n → m ≡ n

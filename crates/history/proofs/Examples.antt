@@ -1,9 +1,9 @@
 -- The worked history conforms, and its statement is that.
-use mathlib.Core.Path.{_≡_, refl}
+use mathlib.Core.Path.{refl}
 use native.Mathlib.Omega.{arith}
 use lib.Dec.{lit≤, lit<}
 use Rattle.page.specs.Numerals.{lead, numeral}
-use Rattle.std.proofs.shelf.Tests.{false≢true, true≢false}
+use Rattle.std.proofs.shelf.Tests.{true≢false}
 use Rattle.history.specs.Law.{no-such-place, no-certificate, out-of-range, not-to-hand-back}
 use Rattle.history.specs.Example.{Example}
 

@@ -91,7 +91,7 @@ module _ (k : Making) (h : History) (v : Contents) (a : Keeps k h v) (n i : ℕ)
       let y : opened f (record-of s l) ≡ p l = opened-of f s l ∙ rw (eq-eqb (l .serial) n e) in
       omega (arith, x, y, in-book-most k h v a n p)
 
-  pub record-says : (p : Lease → ℕ) → weight-of p h n ≡ p l
+  record-says : (p : Lease → ℕ) → weight-of p h n ≡ p l
   record-says p =
       let t = the-lease n (leases h) (orderly k h (a .conforms) .0) was-given in
       let q : Lease → ℕ = λ x. (p l + p (t .0)) - p x in

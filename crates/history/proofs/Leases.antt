@@ -19,7 +19,7 @@ abbrev pub serial-of : Lease → ℕ
 serial-of l = l .serial
 
 -- each serial is one more than the number of leases before it
-abbrev pub Falls : List Lease → Type 0
+abbrev Falls : List Lease → Type 0
 Falls [] = Unit {0}
 Falls (l ∷ ls) = (l .serial ≡ suc (length ls)) × Falls ls
 
@@ -39,7 +39,7 @@ none-above n w (l ∷ ls) f h =
     rw (ne-eqb (l .serial) n k) (omega (arith, none-above n w ls (f .1) (omega arith)))
 
 -- a serial that is among them has one lease, and no other
-abbrev pub The-lease : ℕ → List Lease → Type 0
+abbrev The-lease : ℕ → List Lease → Type 0
 The-lease n ls = (l : Lease) × (l .serial ≡ n) × (n ≤ length ls) × ((w : Lease → ℕ) → total (weighed n w) ls ≡ w l)
 
 pub the-lease : (n : ℕ) (ls : List Lease) → Falls ls → among n (map serial-of ls) ≡ true → The-lease n ls

@@ -21,7 +21,7 @@ conformed : (k : Making) (since g : History) → Conforms k (since ++ g) → Con
 conformed k [] g c = c
 conformed k (e ∷ since) g c = conformed k since g (c .0)
 
-pub past-conforms : (k : Making) (g h : History) → Past g h → Conforms k h → Conforms k g
+past-conforms : (k : Making) (g h : History) → Past g h → Conforms k h → Conforms k g
 past-conforms k g h p c = conformed k (p .0) g (subst (Conforms k) (sym (p .1)) c)
 
 told : (xs : List ℕ) (f : ℕ → ℕ) → Tells xs f → Agree 16 (figure xs) f

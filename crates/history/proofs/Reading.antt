@@ -62,7 +62,7 @@ open-lease true n h = absurd (not-suc-le-zero h)
 open-lease false n h = (refl, h)
 
 -- the one at a place of the leases was given
-pub given-at : (ls : List Lease) (i : ℕ) (l : Lease) → Holds-at ls i l → among (l .serial) (map serial-of ls) ≡ true
+given-at : (ls : List Lease) (i : ℕ) (l : Lease) → Holds-at ls i l → among (l .serial) (map serial-of ls) ≡ true
 given-at [] i l a = absurd (not-suc-le-zero (a .0))
 given-at (x ∷ ls) zero l a = let e : eqb (l .serial) (x .serial) ≡ true = eq-eqb (l .serial) (x .serial) (ap serial-of (sym (a .1 x))) in rw e
 given-at (x ∷ ls) (suc i) l a = or-right (eqb (l .serial) (x .serial)) (among (l .serial) (map serial-of ls)) (given-at ls i l (le-of-suc-le-suc (a .0), a .1))

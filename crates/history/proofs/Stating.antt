@@ -1,9 +1,14 @@
--- The statement of the contents is the statement by the calls.
-use mathlib.Core.Path.{_≡_, refl, ap, ap₂}
-use mathlib.Core.List.{_++_}
-use Prim.Native.Nat.{ℕ, zero, suc, _*_, _≤_}
+-- The statement of the contents is the statement by the calls, and fits its buffer.
+use mathlib.Core.Path.{_≡_, refl, ap, ap₂, _∙_}
+use mathlib.Core.List.{List, [], _∷_, _++_, map}
+use Prim.Native.Nat.{ℕ, zero, suc, _+_, _*_, _/_, _≤_}
 use native.Mathlib.Omega.{arith}
-use Rattle.history.specs.Statement.{summed, figures, role-line, role-lines, total-line, stated}
+use mathlib.Core.Bool.{Bool, true, false, cond}
+use lib.Dec.{eqb}
+use lib.ListN.{length}
+use Rattle.std.proofs.shelf.Lists.{length-append, length-push}
+use Rattle.page.specs.Numerals.{lead, numeral}
+use Rattle.history.specs.Statement.{summed, columns, figures, role-line, role-lines, total-line, stated, Statements-fit}
 
 -- the same figures for the role names 1 to n
 abbrev pub Agree : ℕ → (ℕ → ℕ) → (ℕ → ℕ) → Type 0
@@ -33,3 +38,43 @@ module _ (u g d b o g' d' b' o' : ℕ → ℕ) where
 
   pub stated-same : Agree 16 g g' → Agree 16 d d' → Agree 16 b b' → Agree 16 o o' → stated u g d b o ≡ stated u g' d' b' o'
   stated-same p q s t = ap₂ _++_ (lines-same 16 p q s t) (total-same p q s t)
+
+-- the statement fits its buffer
+lead-length : (w n : ℕ) → length (lead w n) ≡ w
+unfolding lead
+lead-length zero n = refl
+lead-length (suc w) n = length-push (lead w (n / 10)) _ ∙ omega (arith, lead-length w (n / 10))
+
+numeral-length : (w n : ℕ) → length (numeral w n) ≡ w
+unfolding numeral
+numeral-length zero n = refl
+numeral-length (suc w) n = length-push (lead w (n / 10)) _ ∙ omega (arith, lead-length w (n / 10))
+
+columns-length : (ns : List ℕ) → length (columns ns) ≡ 7 * length ns + 1
+columns-length [] = refl
+columns-length (n ∷ ns) = omega (arith, length-append (numeral 7 n) (columns ns), numeral-length 7 n, columns-length ns)
+
+module _ (u g d b o : ℕ → ℕ) where
+  role-line-most : (r : ℕ) → length (role-line g (figures u g d b o) r) ≤ 39
+  role-line-most r = go (eqb (g r) 0)
+    where
+      ns : List ℕ
+      ns = g r ∷ d r ∷ b r ∷ o r ∷ o r * u r ∷ []
+
+      go : (t : Bool) → length (cond t [] (numeral 3 r ++ columns ns)) ≤ 39
+      go true = omega arith
+      go false = omega (arith, length-append (numeral 3 r) (columns ns), numeral-length 3 r, columns-length ns)
+
+  role-lines-most : (n : ℕ) → length (role-lines g (figures u g d b o) n) ≤ 39 * n
+  role-lines-most zero = omega arith
+  role-lines-most (suc n) =
+      omega (arith, length-append (role-lines g (figures u g d b o) n) (role-line g (figures u g d b o) (suc n)), role-lines-most n, role-line-most (suc n))
+
+pub statements-fit : Statements-fit
+statements-fit u g d b o =
+    omega (
+      arith,
+      length-append (role-lines g (figures u g d b o) 16) (total-line (figures u g d b o)),
+      role-lines-most u g d b o 16,
+      columns-length (map (summed 16) (figures u g d b o)),
+    )

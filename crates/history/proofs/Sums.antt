@@ -1,5 +1,5 @@
 -- Sums of weights over lists.
-use mathlib.Core.Path.{_≡_, refl, ap, fun-ext}
+use mathlib.Core.Path.{_≡_, refl, ap}
 use mathlib.Core.List.{List, [], _∷_}
 use Prim.Native.Nat.{ℕ, zero, suc, _+_, _≤_, _<_}
 use native.Mathlib.Nat.{not-suc-le-zero, le-of-suc-le-suc}
@@ -14,9 +14,6 @@ module _ {X : Type 0} where
   pub total-zero : (xs : List X) → total (λ _. 0) xs ≡ 0
   total-zero [] = refl
   total-zero (x ∷ xs) = omega (arith, total-zero xs)
-
-  pub total-same : (u w : X → ℕ) → ((x : X) → u x ≡ w x) → (xs : List X) → total u xs ≡ total w xs
-  total-same u w e xs = ap (λ (f : X → ℕ). total f xs) (fun-ext e)
 
   pub total-same-all : (u w : X → ℕ) (xs : List X) → All (λ x. u x ≡ w x) xs → total u xs ≡ total w xs
   total-same-all u w [] a = refl
@@ -67,7 +64,3 @@ module _ {X : Type 0} where
           → (i : ℕ) × (x : X) × Holds-at (z ∷ xs) i x × (w x ≡ 0) × ((j : ℕ) (d : X) → j < i → 1 ≤ w (getD (z ∷ xs) j d))
       go (inr a) r = (0, z, (omega arith, λ d. refl), omega arith, λ j d b. absurd (not-suc-le-zero b))
       go (inl a) r = let f = r (omega arith) in (suc (f .0), f .1, (omega (arith, f .2 .0), f .2 .1), f .3, earlier (f .0) a (f .4))
-
-  pub total-none : (w : X → ℕ) (xs : List X) → ((i : ℕ) (d : X) → i < length xs → w (getD xs i d) ≡ 0) → total w xs ≡ 0
-  total-none w [] f = refl
-  total-none w (z ∷ xs) f = omega (arith, f 0 z (omega arith), total-none w xs (λ i d l. f (suc i) d (omega arith)))

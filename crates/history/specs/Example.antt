@@ -8,12 +8,11 @@ use Rattle.credential.specs.declared.credentials.Credential.{Credential}
 use Rattle.credential.specs.declared.credentials.Credential.the-variants.{Member, Exclusion}
 use Rattle.credential.specs.declared.memberships.Membership.{Membership}
 use Rattle.credential.specs.declared.numbers.Entity.{Entity}
-use Rattle.credential.specs.declared.numbers.RoleName.{RoleName}
 use Rattle.credential.specs.declared.roles.Role.{Role}
 use Rattle.credential.specs.Refusals.{refused as by}
 use Rattle.model.specs.Stages.{Rounds}
 use Rattle.model.specs.Tables.{Table, Is-T, Least}
-use Rattle.history.specs.Events.{Making, Slip, History, certifying, publish, withdraw, certify, offer, hand-back, certified, offered, drawn, declined, refused}
+use Rattle.history.specs.Events.{Making, Slip, History, certifying, withdraw, offer, hand-back, certified, offered, drawn, declined, refused}
 use Rattle.history.specs.Law.{Conforms}
 use Rattle.history.specs.Statement.{units, statement-by}
 

@@ -1,8 +1,9 @@
 -- The statement's bytes.
 use mathlib.Core.List.{List, [], _∷_, _++_, map}
 use mathlib.Core.Bool.{cond}
-use Prim.Native.Nat.{ℕ, zero, suc, _+_, _*_}
+use Prim.Native.Nat.{ℕ, zero, suc, _+_, _*_, _≤_}
 use lib.Dec.{eqb}
+use lib.ListN.{length}
 use Rattle.page.specs.Numerals.{numeral}
 use Rattle.history.specs.Events.{History}
 use Rattle.history.specs.Words.{for, given, declined-of, handed-back-of, open-of}
@@ -49,3 +50,10 @@ statement us v =
 
 abbrev pub statement-by : List ℕ → History → List ℕ
 statement-by us h = stated (figure us) (λ r. given (for r) h) (λ r. declined-of (for r) h) (λ r. handed-back-of (for r) h) (λ r. open-of (for r) h)
+
+-- the most bytes of a statement: seventeen lines of a role name, five figures and the newline
+abbrev pub most-bytes : ℕ
+most-bytes = 17 * (3 + 5 * 7 + 1)
+
+abbrev pub Statements-fit : Type 0
+Statements-fit = (u g d b o : ℕ → ℕ) → length (stated u g d b o) ≤ most-bytes

@@ -2,6 +2,7 @@
 ghost use Rattle.history.specs.Contents.{Making-keeps, Calls-keep, Contents-say, Steps-keep};
 ghost use Rattle.history.specs.Example.{Example};
 ghost use Rattle.history.specs.Promise.{Promise-met};
+ghost use Rattle.history.specs.Statement.{Statements-fit};
 ghost use Rattle.history.specs.Theorems.{Balances, Serials-rise, Limits-kept, One-answer, Some-answer, Offers-follow, Refusals-follow, Tables-model, Vaults-agree};
 
 // Every lease is declined, handed back or open; serials rise by one; no limit is passed.
@@ -29,9 +30,10 @@ pub fn contents_hold()
     ensures steps { λ _. ⌜ Steps-keep ⌝ }
 {}
 
-// Contents that agree with a history meet the whole promise about it.
+// Contents that agree with a history meet the whole promise about it, and every statement fits its buffer.
 pub fn promise_holds()
-    ensures { λ _. ⌜ Promise-met ⌝ }
+    ensures met { λ _. ⌜ Promise-met ⌝ }
+    ensures room { λ _. ⌜ Statements-fit ⌝ }
 {}
 
 // A worked history conforms, and its statement has two lines.
