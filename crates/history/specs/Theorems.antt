@@ -6,8 +6,10 @@ use mathlib.Core.Logic.{_⊎_, _↔_}
 use Prim.Native.Nat.{ℕ, zero, suc, _+_, _≤_, _<_}
 use lib.ListN.{length}
 use Rattle.std.specs.declared.result.Result.{Result}
+use Rattle.std.specs.declared.result.Result.the-variants.{Ok, Err}
 use Rattle.credential.specs.declared.memberships.Membership.{Membership}
-use Rattle.credential.specs.Refusals.{Named, refused as by}
+use Rattle.credential.specs.Refusals.{Named, refused as by, onOk}
+use Rattle.credential.specs.Numbers.{entityOf, roleNameOf}
 use Rattle.model.specs.Clauses.{Among}
 use Rattle.model.specs.Stages.{Is-true, Is-false, Is-undefined}
 use Rattle.model.specs.Tables.{Table, number, verdict}
@@ -16,7 +18,20 @@ use Rattle.checker.specs.Checks.{Checked}
 use Rattle.evaluator.specs.Evaluations.{Evaluated}
 use Rattle.history.specs.Events.{Making, Call, Event, History, publish, withdraw, certify, adopt, offer, draw, decline, hand-back, certified, adopted, refused, call, asked, Taken}
 use Rattle.history.specs.Words.{standing, certificate, Lease, leases, open-leases, offers-given, given, declined-of, handed-back-of, open-of}
-use Rattle.history.specs.Law.{facts, Due, Conforms}
+use Rattle.history.specs.Law.{In-range, facts, Due, Conforms}
+
+-- the membership of three plain numbers, or the refusal of one that is out of range
+abbrev pub membership-of : ℕ → ℕ → ℕ → Result Membership Named
+membership-of a r d =
+    onOk (entityOf a) (λ owner. onOk (roleNameOf r) (λ name. onOk (entityOf d) (λ member. Ok (record { role = record { owner = owner; name = name }; member = member }))))
+
+-- it is the one that the numbers ask for, and 5 is given where there is none
+abbrev pub Numbered : ℕ → ℕ → ℕ → Result Membership Named → Type 0
+Numbered a r d (Ok m) = asked m ≡ offer a r d
+Numbered a r d (Err e) = (e ≡ by 5) × ¬ (In-range a r d)
+
+abbrev pub Numbers-tell : Type 0
+Numbers-tell = (a r d : ℕ) → Numbered a r d (membership-of a r d)
 
 -- one answer is due to a call
 abbrev pub One-answer : Type 0

@@ -3,7 +3,7 @@ ghost use Rattle.history.specs.Contents.{Making-keeps, Calls-keep, Contents-sa
 ghost use Rattle.history.specs.Example.{Example};
 ghost use Rattle.history.specs.Promise.{Promise-met};
 ghost use Rattle.history.specs.Statement.{Statements-fit};
-ghost use Rattle.history.specs.Theorems.{Balances, Serials-rise, Limits-kept, One-answer, Some-answer, Offers-follow, Refusals-follow, Tables-model, Vaults-agree};
+ghost use Rattle.history.specs.Theorems.{Balances, Serials-rise, Limits-kept, Numbers-tell, One-answer, Some-answer, Offers-follow, Refusals-follow, Tables-model, Vaults-agree};
 
 // Every lease is declined, handed back or open; serials rise by one; no limit is passed.
 pub fn counts_hold()
@@ -14,6 +14,7 @@ pub fn counts_hold()
 
 // One answer is due to each call, and offers, refusals and tables follow the model.
 pub fn answers_hold()
+    ensures numbers { λ _. ⌜ Numbers-tell ⌝ }
     ensures one { λ _. ⌜ One-answer ⌝ }
     ensures some { λ _. ⌜ Some-answer ⌝ }
     ensures offers { λ _. ⌜ Offers-follow ⌝ }

@@ -1,3 +1,4 @@
+use Rattle.history.proofs.Asked.{numbers-tell}
 use Rattle.history.proofs.Offers.{tables-model}
 use Rattle.history.proofs.Unique.{one-answer, vaults-agree}
 use Rattle.history.proofs.Total.{some-answer}
@@ -7,6 +8,7 @@ use Rattle.history.proofs.answers_hold.Needs as need
 pub returns : need.returns
 returns c =
     record {
+      numbers = numbers-tell;
       one = one-answer;
       some = some-answer;
       offers = offers-follow;
