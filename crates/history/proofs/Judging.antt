@@ -10,7 +10,8 @@ use Rattle.model.specs.Tables.{Table, table, verdict}
 use Rattle.history.specs.Events.{Making, Call, Event, History, publish, withdraw, certify, adopt, offer, draw, decline, hand-back, published, withdrawn, certified, adopted, offered, drawn, declined, handed-back, refused, call, Has-call}
 use Rattle.history.specs.Words.{Lease, standing, certificate, open-leases, offers-given}
 use Rattle.history.specs.Law.{Facts, facts, Due, Refuses, already-stands, register-full, no-such-place, not-evaluated, not-accepted, out-of-range, no-certificate, is-false, is-undefined, book-full, all-given, not-to-draw, not-to-decline, not-to-hand-back}
-use Rattle.history.specs.Contents.{Contents, is-offered, is-held, verdicts-of, certificate-of, seen, Record-of, Keeps, Says, Steps-keep}
+use Rattle.history.specs.Contents.{Contents, is-offered, is-held, verdicts-of, Keeps}
+use Rattle.history.specs.Steps.{certificate-of, seen, Record-of, Says, Steps-keep}
 use Rattle.history.proofs.Keeping.{calls-keep}
 use Rattle.history.proofs.Reading.{contents-say}
 

@@ -11,7 +11,8 @@ use Rattle.std.proofs.shelf.Lists.{length-set, getD-set-same, getD-set-other}
 use Rattle.credential.specs.declared.numbers.RoleName.{RoleName}
 use Rattle.history.specs.Events.{Making, Slip, History, published, withdrawn, certified, adopted, offered, drawn, declined, handed-back, refused}
 use Rattle.history.specs.Words.{total, Holds-at, one-if, among, Lease, leases, declines, hand-backs, ended, held, open-by, offers-given, weight-of, for}
-use Rattle.history.specs.Contents.{is-free, is-offered, is-held, Contents, record-of, opened, in-book, figure, one-more, Tells, Keeps, made, Making-keeps, Calls-keep}
+use Rattle.history.specs.Contents.{is-free, is-offered, is-held, Contents, record-of, opened, in-book, figure, one-more, Tells, Keeps, made, Making-keeps}
+use Rattle.history.specs.Steps.{Calls-keep}
 use Rattle.history.proofs.Sums.{total-le, total-balance, total-set, total-at}
 use Rattle.history.proofs.Leases.{serial-of, weighed, the-lease, Orderly, orderly, ends-one, not-ended, new-open, new-not-held, summed-before, declined-ends, handed-back-ends}
 

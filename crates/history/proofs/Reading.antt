@@ -14,7 +14,8 @@ use Rattle.credential.specs.Memberships.{place}
 use Rattle.model.specs.Tables.{Table, verdict}
 use Rattle.history.specs.Events.{Making, History}
 use Rattle.history.specs.Words.{Holds-at, one-if, among, certificate, Lease, leases, ended, held, open-by, open-leases, Is-open}
-use Rattle.history.specs.Contents.{Entry, is-free, is-offered, is-held, Contents, record-of, opened, verdicts-of, First-free, Keeps, Contents-say}
+use Rattle.history.specs.Contents.{Entry, is-free, is-offered, is-held, Contents, record-of, opened, verdicts-of, Keeps}
+use Rattle.history.specs.Steps.{First-free, Contents-say}
 use Rattle.history.proofs.Sums.{total-le, total-at, one-at, first-without}
 use Rattle.history.proofs.Leases.{serial-of, the-lease, orderly, weighed, not-ended}
 use Rattle.history.proofs.Keeping.{opened-of}

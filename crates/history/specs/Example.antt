@@ -32,6 +32,7 @@ page =
     ∷ Member (role 2 tt tt) (entity 2 tt tt)
     ∷ []
 
+-- a vault with the number 7
 abbrev pub made : Making
 made =
     record {
@@ -45,6 +46,7 @@ made =
       fits = lit≤ {m = 4} {n = 192} tt;
     }
 
+-- its slips
 abbrev pub slip : ℕ → Slip
 slip n = record { vault = 7; serial = n }
 
@@ -66,6 +68,7 @@ happened t n =
     ∷ refused (withdraw 5) (by 8)
     ∷ []
 
+-- with the least certificate in t, that history conforms, and its statement has these two lines
 abbrev pub Example : Type 0
 Example =
     (t : Table) (n : ℕ)

@@ -24,6 +24,7 @@ Past g h = (since : History) × (since ++ g ≡ h)
 abbrev pub Open-lease : History → Lease → Bool → Type 0
 Open-lease h l s = ((i : ℕ) × Holds-at (leases h) i l) × (ended h (l .serial) ≡ false) × (held h (l .serial) ≡ s)
 
+-- what holds of a vault with this making, this history and these contents
 pub record Promise (k : Making) (h : History) (v : Contents) : Type 0 where
   -- every call was answered as the conditions say, judged by the making, the calls before it and what it brought, and no other answer was due
   pub answers-due : (g : History) (e f : Event) → Past (e ∷ g) h → Has-call (k .kind) (call e) × Due (facts k g) e × (Due (facts k g) f → call f ≡ call e → f ≡ e)
@@ -51,7 +52,7 @@ pub record Promise (k : Making) (h : History) (v : Contents) : Type 0 where
       → Past (e ∷ g) h
       → Same-members (standing l j) (standing k g)
       → (call e ≡ adopt t → e ≡ adopted t) × ((u : Table) → e ≡ adopted u → (m : Membership) → number t m ≤ number u m)
-  -- for any weight of a lease, what was given is what was declined, what was handed back and what is open in the book
+  -- for any weight of a lease, what was given is what was declined, what was handed back and what is open in the book; `for r` counts the leases of a role name
   pub leases-conserved : (w : Lease → ℕ) → given w h ≡ declined-of w h + handed-back-of w h + in-book (λ l b. w l) (v .book)
   -- a lease is open by the calls exactly when the book has a record of it in its state, and no serial has two
   pub leases-recorded : (l : Lease) (s : Bool) → Open-lease h l s ↔ ((i : ℕ) × Holds-at (v .book) i (record-of s l))
@@ -63,5 +64,6 @@ pub record Promise (k : Making) (h : History) (v : Contents) : Type 0 where
   -- the statement's figures are those of the calls
   pub statement-due : (units : List ℕ) → statement units v ≡ statement-by units h
 
+-- contents that agree with a history meet the promise
 abbrev pub Promise-met : Type 0
 Promise-met = (k : Making) (h : History) (v : Contents) → Keeps k h v → Promise k h v

@@ -36,6 +36,7 @@ role-lines g fs (suc n) = role-lines g fs n ++ role-line g fs (suc n)
 abbrev pub total-line : List (ℕ → ℕ) → List ℕ
 total-line fs = (32 ∷ 32 ∷ 32 ∷ []) ++ columns (map (summed 16) fs)
 
+-- the statement: the lines of the role names, then the total line
 abbrev pub stated : (units givens declineds handed-backs opens : ℕ → ℕ) → List ℕ
 stated u g d b o = role-lines g (figures u g d b o) 16 ++ total-line (figures u g d b o)
 
@@ -43,11 +44,12 @@ stated u g d b o = role-lines g (figures u g d b o) 16 ++ total-line (figures u 
 abbrev pub units : List ℕ
 units = 1 ∷ 1 ∷ 1 ∷ 1 ∷ 1 ∷ 1 ∷ 1 ∷ 1 ∷ 2 ∷ 2 ∷ 2 ∷ 2 ∷ 5 ∷ 5 ∷ 5 ∷ 5 ∷ []
 
--- the statement of a vault with these contents; the statement by the calls
+-- the statement of a vault with these contents
 abbrev pub statement : List ℕ → Contents → List ℕ
 statement us v =
     stated (figure us) (figure (v .figures .givens)) (figure (v .figures .declineds)) (figure (v .figures .handed-backs)) (λ r. in-book (λ l b. for r l) (v .book))
 
+-- the statement by the calls
 abbrev pub statement-by : List ℕ → History → List ℕ
 statement-by us h = stated (figure us) (λ r. given (for r) h) (λ r. declined-of (for r) h) (λ r. handed-back-of (for r) h) (λ r. open-of (for r) h)
 
@@ -55,5 +57,6 @@ statement-by us h = stated (figure us) (λ r. given (for r) h) (λ r. declined-o
 abbrev pub most-bytes : ℕ
 most-bytes = 17 * (3 + 5 * 7 + 1)
 
+-- no statement has more
 abbrev pub Statements-fit : Type 0
 Statements-fit = (u g d b o : ℕ → ℕ) → length (stated u g d b o) ≤ most-bytes

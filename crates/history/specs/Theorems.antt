@@ -30,6 +30,7 @@ abbrev pub Numbered : ℕ → ℕ → ℕ → Result Membership Named → Type 0
 Numbered a r d (Ok m) = asked m ≡ offer a r d
 Numbered a r d (Err e) = (e ≡ by 5) × ¬ (In-range a r d)
 
+-- plain numbers tell their membership
 abbrev pub Numbers-tell : Type 0
 Numbers-tell = (a r d : ℕ) → Numbered a r d (membership-of a r d)
 

@@ -68,6 +68,7 @@ on-lease o d c b (declined s) xs = c s ++ xs
 on-lease o d c b (handed-back s) xs = b s ++ xs
 on-lease o d c b (refused x e) xs = xs
 
+-- nothing for a slip; the serial of a slip
 abbrev none-of : {X : Type 0} → Slip → List X
 none-of s = []
 
@@ -92,6 +93,7 @@ abbrev pub hand-backs : History → List ℕ
 hand-backs [] = []
 hand-backs (e ∷ h) = on-lease (λ m s. []) none-of none-of its-serial e (hand-backs h)
 
+-- how many were given
 abbrev pub offers-given : History → ℕ
 offers-given h = length (leases h)
 
@@ -116,6 +118,7 @@ Is-held h n = Is-open h n × (held h n ≡ true)
 abbrev pub open-by : (Lease → Bool → ℕ) → History → ℕ
 open-by w h = total (λ l. cond (ended h (l .serial)) 0 (w l (held h (l .serial)))) (leases h)
 
+-- how many are open
 abbrev pub open-leases : History → ℕ
 open-leases h = open-by (λ l b. 1) h
 

@@ -1,8 +1,9 @@
 // The law over a vault's whole history, and what follows from it: specs/ says both.
-ghost use Rattle.history.specs.Contents.{Making-keeps, Calls-keep, Contents-say, Steps-keep};
+ghost use Rattle.history.specs.Contents.{Making-keeps};
 ghost use Rattle.history.specs.Example.{Example};
 ghost use Rattle.history.specs.Promise.{Promise-met};
 ghost use Rattle.history.specs.Statement.{Statements-fit};
+ghost use Rattle.history.specs.Steps.{Calls-keep, Contents-say, Steps-keep};
 ghost use Rattle.history.specs.Theorems.{Balances, Serials-rise, Limits-kept, Numbers-tell, One-answer, Some-answer, Offers-follow, Refusals-follow, Tables-model, Vaults-agree};
 
 // Every lease is declined, handed back or open; serials rise by one; no limit is passed.
