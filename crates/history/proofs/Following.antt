@@ -45,7 +45,7 @@ offers-follow k h e m t conf q f few fewer = (
     taken (drawn s l) d q x = absurd (subst Is-offer (sym q) tt)
     taken (declined s) d q x = absurd (subst Is-offer (sym q) tt)
     taken (handed-back s) d q x = absurd (subst Is-offer (sym q) tt)
-    taken (offered n s) d q x = shown .0 .0 (sym (same-verdict h n m (d .0 .0) t (asked m) q refl (d .0 .1) f) ∙ d .0 .2)
+    taken (offered n s) d q x = shown .0 .0 (sym (same-verdict (certificate h) n m (d .0 .0) t (asked m) q refl (d .0 .1) f) ∙ d .0 .2)
     taken (refused c n) d q x = absurd x
 
 -- what an offer that is refused by 17, or by 18, shows of its verdict
@@ -53,7 +53,7 @@ module _ (k : Making) (h : History) (m : Membership) (t : Table) (f : certificat
   by-17 : (a r d : ℕ) (e : Named) → asked m ≡ offer a r d → numberIn e ≡ 17 → Refuses (facts k h) (offer a r d) e → Is-F t m
   by-17 a r d e q z (out-of-range x) = absurd (omega (arith, z))
   by-17 a r d e q z (no-certificate x y) = absurd (omega (arith, z))
-  by-17 a r d e q z (is-false n w s) = same-verdict h m n t (s .0) (offer a r d) q w f (s .1) ∙ s .2
+  by-17 a r d e q z (is-false n w s) = same-verdict (certificate h) m n t (s .0) (offer a r d) q w f (s .1) ∙ s .2
   by-17 a r d e q z (is-undefined n w s) = absurd (omega (arith, z))
   by-17 a r d e q z (book-full n w s o) = absurd (omega (arith, z))
   by-17 a r d e q z (all-given n w s o g) = absurd (omega (arith, z))
@@ -62,7 +62,7 @@ module _ (k : Making) (h : History) (m : Membership) (t : Table) (f : certificat
   by-18 a r d e q z (out-of-range x) = absurd (omega (arith, z))
   by-18 a r d e q z (no-certificate x y) = absurd (omega (arith, z))
   by-18 a r d e q z (is-false n w s) = absurd (omega (arith, z))
-  by-18 a r d e q z (is-undefined n w s) = same-verdict h m n t (s .0) (offer a r d) q w f (s .1) ∙ s .2
+  by-18 a r d e q z (is-undefined n w s) = same-verdict (certificate h) m n t (s .0) (offer a r d) q w f (s .1) ∙ s .2
   by-18 a r d e q z (book-full n w s o) = absurd (omega (arith, z))
   by-18 a r d e q z (all-given n w s o g) = absurd (omega (arith, z))
 

@@ -42,5 +42,5 @@ tables-model = (
 )
 
 -- one call has one verdict
-pub same-verdict : (h : History) (m n : Membership) (t u : Table) (c : Call) → asked m ≡ c → asked n ≡ c → certificate h ≡ some t → certificate h ≡ some u → verdict t m ≡ verdict u n
-same-verdict h m n t u c p q e f = λ i. verdict (one-table t u (certificate h) e f i) (same-asked m n (p ∙ sym q) i)
+pub same-verdict : (o : Option Table) (m n : Membership) (t u : Table) (c : Call) → asked m ≡ c → asked n ≡ c → o ≡ some t → o ≡ some u → verdict t m ≡ verdict u n
+same-verdict o m n t u c p q e f = λ i. verdict (one-table t u o e f i) (same-asked m n (p ∙ sym q) i)

@@ -10,17 +10,18 @@ use Rattle.credential.specs.declared.memberships.Membership.{Membership}
 use Rattle.credential.specs.declared.numbers.Entity.{Entity}
 use Rattle.credential.specs.declared.roles.Role.{Role}
 use Rattle.credential.specs.Refusals.{refused as by}
-use Rattle.model.specs.Stages.{Rounds}
-use Rattle.model.specs.Tables.{Table, Is-T, Least}
+use Rattle.model.specs.Tables.{Table}
+use Rattle.evaluator.specs.Evaluations.{Evaluated}
+use Rattle.std.specs.declared.result.Result.the-variants.{Ok}
 use Rattle.history.specs.Events.{Making, Slip, History, certifying, withdraw, offer, hand-back, certified, offered, drawn, declined, refused}
 use Rattle.history.specs.Law.{Conforms}
 use Rattle.history.specs.Statement.{units, statement-by}
 
 -- an entity, and a role of the entity 1
-abbrev entity : (k : ℕ) → T (leb 1 k) → T (leb k 32) → Entity
+abbrev pub entity : (k : ℕ) → T (leb 1 k) → T (leb k 32) → Entity
 entity k low high = record { number = k; low = lit≤ {m = 1} {n = k} low; high = lit≤ {m = k} {n = 32} high }
 
-abbrev role : (k : ℕ) → T (leb 1 k) → T (leb k 16) → Role
+abbrev pub role : (k : ℕ) → T (leb 1 k) → T (leb k 16) → Role
 role k low high = record { owner = entity 1 tt tt; name = record { number = k; low = lit≤ {m = 1} {n = k} low; high = lit≤ {m = k} {n = 16} high } }
 
 -- `1.3 <- 1.1 - 1.2`, `1.1 <- 2`, `1.1 <- 3` and `1.2 <- 2`
@@ -54,26 +55,24 @@ slip n = record { vault = 7; serial = n }
 abbrev pub member : Membership
 member = record { role = role 3 tt tt; member = entity 3 tt tt }
 
--- the latest first; t is the table filled, in n rounds
-abbrev pub happened : Table → ℕ → History
-happened t n =
+-- the latest first; the table b was filled with t, in n rounds
+abbrev pub happened : Table → Table → ℕ → History
+happened b t n =
     refused (hand-back (slip 2)) (by 21)
     ∷ declined (slip 2)
     ∷ offered member (slip 2)
     ∷ drawn (slip 1) (slip 1)
     ∷ offered member (slip 1)
-    ∷ certified t t n
+    ∷ certified b t n
     ∷ refused (offer 1 3 33) (by 5)
     ∷ refused (offer 1 3 3) (by 16)
     ∷ refused (withdraw 5) (by 8)
     ∷ []
 
--- with the least certificate in t, that history conforms, and its statement has these two lines
+-- with what evaluate answers over the page, that history conforms, and its statement has these two lines
 abbrev pub Example : Type 0
 Example =
-    (t : Table) (n : ℕ)
-    → Least page t
-    → Rounds page n
-    → Is-T t member
-    → Conforms made (happened t n)
-    × (statement-by units (happened t n) ≡ codes "  3      2      1      0      1      1" ++ (10 ∷ (codes "         2      1      0      1      1" ++ (10 ∷ []))))
+    (b t : Table) (n : ℕ)
+    → Evaluated page b (Ok n) t
+    → Conforms made (happened b t n)
+    × (statement-by units (happened b t n) ≡ codes "  3      2      1      0      1      1" ++ (10 ∷ (codes "         2      1      0      1      1" ++ (10 ∷ []))))
