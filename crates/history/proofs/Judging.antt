@@ -1,9 +1,11 @@
 -- What is due by the contents is due by the history that they keep.
 use mathlib.Core.Path.{_≡_, refl, ap, _∙_, subst}
-use mathlib.Core.List.{[]}
+use mathlib.Core.List.{List, []}
 use mathlib.Core.Option.{Option, none, some}
 use Prim.Native.Nat.{ℕ}
 use native.Mathlib.Omega.{arith}
+use lib.ListN.{getD}
+use Rattle.credential.specs.Memberships.{place}
 use Rattle.credential.specs.declared.memberships.Membership.{Membership}
 use Rattle.credential.specs.Refusals.{Named}
 use Rattle.model.specs.Tables.{Table, table, verdict}
@@ -14,6 +16,11 @@ use Rattle.history.specs.Contents.{Contents, is-offered, is-held, verdicts-of,
 use Rattle.history.specs.Steps.{certificate-of, seen, Record-of, Says, Steps-keep}
 use Rattle.history.proofs.Keeping.{calls-keep}
 use Rattle.history.proofs.Reading.{contents-say}
+
+-- a verdict kept is the certificate's
+pub verdict-kept : (vs : List ℕ) (m : Membership) → verdict (table vs []) m ≡ getD vs (place m) 0
+unfolding verdict
+verdict-kept vs m = refl
 
 -- the verdicts kept stand as the certificate does
 none-kept : (o : Option Table) → certificate-of (verdicts-of o) ≡ none → o ≡ none

@@ -8,10 +8,10 @@ use Rattle.history.specs.Words.{for, given, declined-of, handed-back-of, open-
 use Rattle.history.specs.Law.{facts, Due, Conforms}
 use Rattle.history.specs.Contents.{Contents, figure, in-book, Tells, Keeps}
 use Rattle.history.specs.Statement.{statement, statement-by}
-use Rattle.history.specs.Promise.{Past, Promise-met}
+use Rattle.history.specs.Promise.{Past, Promise-met, Agreement-met}
 use Rattle.history.proofs.Leases.{balances}
 use Rattle.history.proofs.Offers.{tables-model}
-use Rattle.history.proofs.Unique.{one-answer, vaults-agree}
+use Rattle.history.proofs.Unique.{one-answer, filled-is-adopted}
 use Rattle.history.proofs.Following.{offers-follow, refusals-follow}
 use Rattle.history.proofs.Recording.{to-record, of-record, once}
 use Rattle.history.proofs.Stating.{Agree, stated-same}
@@ -41,10 +41,6 @@ promise-met k h v a =
       refusals-follow = λ g e m t p. refusals-follow k g e m t (at (e ∷ g) p);
       filled-show-the-model = λ g b t n p. tables-model .0 k g b t n (at (certified b t n ∷ g) p);
       adopted-show-the-model = λ g t p. tables-model .1 k g t (at (adopted t ∷ g) p);
-      vaults-agree = λ l j g e b t n c p s.
-          let d = at (e ∷ g) p in
-          let w = vaults-agree l k j g b t n c s in
-          (w .1 e (d .2), λ u z m. w .2 u (subst (Due (facts k g)) z (d .2)) m .1);
       leases-conserved = λ w. omega (arith, balances k h (a .conforms) w, a .book .1 (λ l b. w l));
       leases-recorded = λ l s. (to-record k h v a l s, λ r. of-record k h v a l s (r .0) (r .1));
       recorded-once = once k h v a;
@@ -53,3 +49,10 @@ promise-met k h v a =
   where
     at : (g : History) → Past g h → Conforms k g
     at g p = past-conforms k g h p (a .conforms)
+
+pub agreement-met : Agreement-met
+agreement-met k l g h c d i j b t n e p q same =
+    let x = past-conforms k (certified b t n ∷ i) g p c in
+    let y = past-conforms l (e ∷ j) h q d in
+    let f = filled-is-adopted k l i j b t n (x .2) same in
+    (one-answer l j e (adopted t) (y .2) (f .0), λ u z m. f .1 u (subst (Due (facts l j)) z (y .2)) m .1)

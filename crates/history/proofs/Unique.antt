@@ -19,7 +19,7 @@ use Rattle.evaluator.proofs.Unique.{one-evaluation}
 use Rattle.history.specs.Events.{Slip, Call, Event, publish, withdraw, certify, adopt, offer, draw, decline, hand-back, published, withdrawn, certified, adopted, offered, drawn, declined, handed-back, refused, call, asked}
 use Rattle.history.specs.Words.{standing, certificate}
 use Rattle.history.specs.Law.{Facts, facts, Due, Refuses, In-range, already-stands, register-full, no-such-place, not-evaluated, not-accepted, out-of-range, no-certificate, is-false, is-undefined, book-full, all-given, not-to-draw, not-to-decline, not-to-hand-back}
-use Rattle.history.specs.Theorems.{One-answer, Vaults-agree}
+use Rattle.history.specs.Theorems.{One-answer, Filled-is-adopted}
 use Rattle.history.proofs.Asked.{same-asked, in-range}
 use Rattle.history.proofs.Offers.{none-stands, same-verdict}
 
@@ -161,11 +161,7 @@ one-answer k h e f x y q =
     let j = facts k h in
     one j (call f) e f (subst (λ (c : Call). Answers j c e) q (answers j e x)) (answers j f y)
 
-pub vaults-agree : Vaults-agree
-vaults-agree k l g h b t n c same =
-    let least = order-does-not-matter (standing k g) (standing l h) same .3 t .1 (c .2 .1) in
-    let a = least-certificate-certifies (standing l h) t least in (
-      a,
-      (λ e x q. one-answer l h e (adopted t) x a q),
-      (λ u x m. no-certificate-below-the-least (standing l h) t u least x m),
-    )
+pub filled-is-adopted : Filled-is-adopted
+filled-is-adopted k l g h b t n x same =
+    let least = order-does-not-matter (standing k g) (standing l h) same .3 t .1 (x .1) in
+    (least-certificate-certifies (standing l h) t least, λ u y m. no-certificate-below-the-least (standing l h) t u least y m)

@@ -46,12 +46,6 @@ pub record Promise (k : Making) (h : History) (v : Contents) : Type 0 where
   -- an accepted table had that model's verdict at every place
   pub filled-show-the-model : (g : History) (b t : Table) (n : ℕ) → Past (certified b t n ∷ g) h → Shows-the-model (standing k g) t
   pub adopted-show-the-model : (g : History) (t : Table) → Past (adopted t ∷ g) h → Shows-the-model (standing k g) t
-  -- a table that another vault's certify filled over the same credentials is accepted here, and those accepted here over them have numbers at least as large
-  pub vaults-agree : (l : Making) (j g : History) (e : Event) (b t : Table) (n : ℕ)
-      → Conforms l (certified b t n ∷ j)
-      → Past (e ∷ g) h
-      → Same-members (standing l j) (standing k g)
-      → (call e ≡ adopt t → e ≡ adopted t) × ((u : Table) → e ≡ adopted u → (m : Membership) → number t m ≤ number u m)
   -- for any weight of a lease, what was given is what was declined, what was handed back and what is open in the book; `for r` counts the leases of a role name
   pub leases-conserved : (w : Lease → ℕ) → given w h ≡ declined-of w h + handed-back-of w h + in-book (λ l b. w l) (v .book)
   -- a lease is open by the calls exactly when the book has a record of it in its state, and no serial has two
@@ -67,3 +61,16 @@ pub record Promise (k : Making) (h : History) (v : Contents) : Type 0 where
 -- contents that agree with a history meet the promise
 abbrev pub Promise-met : Type 0
 Promise-met = (k : Making) (h : History) (v : Contents) → Keeps k h v → Promise k h v
+
+-- between two vaults: where a certify taken in the one and a call of the other found the same credentials, the other accepts the table filled, and what it accepts has numbers at least as large
+abbrev pub Vaults-agree : Making → History → Making → History → Type 0
+Vaults-agree k g l h =
+    (i j : History) (b t : Table) (n : ℕ) (e : Event)
+    → Past (certified b t n ∷ i) g
+    → Past (e ∷ j) h
+    → Same-members (standing k i) (standing l j)
+    → (call e ≡ adopt t → e ≡ adopted t) × ((u : Table) → e ≡ adopted u → (m : Membership) → number t m ≤ number u m)
+
+-- any two histories that conform agree so
+abbrev pub Agreement-met : Type 0
+Agreement-met = (k l : Making) (g h : History) → Conforms k g → Conforms l h → Vaults-agree k g l h

@@ -81,14 +81,13 @@ Tables-model =
     × ((k : Making) (h : History) (t : Table) → Conforms k (adopted t ∷ h) → Shows-the-model (standing k h) t)
     × ((k : Making) (h : History) (t : Table) → Conforms k h → certificate h ≡ some t → Shows-the-model (standing k h) t)
 
--- where the same credentials stand, the second vault accepts the first's table, and any table that it accepts has numbers at least as large
-abbrev pub Vaults-agree : Type 0
-Vaults-agree =
+-- where the same credentials stand, a table that a certify filled is to be adopted, and any table to be adopted has numbers at least as large
+abbrev pub Filled-is-adopted : Type 0
+Filled-is-adopted =
     (k l : Making) (g h : History) (b t : Table) (n : ℕ)
-    → Conforms k (certified b t n ∷ g)
+    → Due (facts k g) (certified b t n)
     → Same-members (standing k g) (standing l h)
     → Due (facts l h) (adopted t)
-    × ((e : Event) → Due (facts l h) e → call e ≡ adopt t → e ≡ adopted t)
     × ((u : Table) → Due (facts l h) (adopted u) → (m : Membership) → (verdict u m ≡ verdict t m) × (number t m ≤ number u m))
 
 -- for any weight of a lease, what was given is what was declined, what was handed back and what is open

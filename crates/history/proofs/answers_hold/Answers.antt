@@ -1,6 +1,6 @@
 use Rattle.history.proofs.Asked.{numbers-tell}
 use Rattle.history.proofs.Offers.{tables-model}
-use Rattle.history.proofs.Unique.{one-answer, vaults-agree}
+use Rattle.history.proofs.Unique.{one-answer, filled-is-adopted}
 use Rattle.history.proofs.Total.{some-answer}
 use Rattle.history.proofs.Following.{offers-follow, refusals-follow}
 use Rattle.history.proofs.answers_hold.Needs as need
@@ -14,5 +14,5 @@ returns c =
       offers = offers-follow;
       refusals = refusals-follow;
       tables = tables-model;
-      vaults = vaults-agree;
+      vaults = filled-is-adopted;
     }
