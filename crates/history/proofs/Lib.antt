@@ -1,0 +1,15 @@
+pub mod Sums
+pub mod Leases
+pub mod Limits
+pub mod Asked
+pub mod Offers
+pub mod Unique
+pub mod Total
+pub mod Following
+pub mod Keeping
+pub mod Reading
+pub mod Recording
+pub mod Stating
+pub mod Promises
+pub mod Judging
+pub mod Examples

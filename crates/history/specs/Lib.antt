@@ -1,0 +1,9 @@
+pub mod Events
+pub mod Words
+pub mod Law
+pub mod Theorems
+pub mod Contents
+pub mod Steps
+pub mod Statement
+pub mod Promise
+pub mod Example
