@@ -1,9 +1,8 @@
 // What a C or Rust program links: pages evaluated, and certificates checked against pages.
 ghost use mathlib.Core.Path.{_≡_};
-ghost use Prim.Native.Nat.{_+_};
-ghost use Rattle.credential.specs.Refusals.{named, numberIn};
+ghost use Rattle.credential.specs.Refusals.{named};
 ghost use Rattle.model.specs.Tables.{table};
-ghost use Rattle.boundary.specs.Codes.{Page-evaluated, Page-checked};
+ghost use Rattle.boundary.specs.Codes.{codeOf, Page-evaluated, Page-checked};
 use checker::check;
 use credential::Refusal;
 use evaluator::evaluate;
@@ -11,14 +10,18 @@ use page::Page;
 use page::pages::calls::PageSource;
 use page::pages::calls::Reading;
 
-// A refusal's number, above every number of rounds.
+// A refusal as a number above every number of rounds: 65,536 times its own, and the place of the entry that it names, or 0.
 fn code(refusal: Refusal) -> u32
-    ensures { λ r. ⌜ r ≡ 65536 + numberIn (named refusal) ⌝ }
+    ensures { λ r. ⌜ r ≡ codeOf (named refusal) ⌝ }
 {
-    65536 + refusal.number() as u32
+    let place = match refusal.entry() {
+        Some(place) => place % 65536,
+        None => 0,
+    };
+    65536 * refusal.number() as u32 + place as u32
 }
 
-// Fills the tables with the least certificate of the page, and answers the rounds, or 65,536 and the refusal's number.
+// Fills the tables with the least certificate of the page, and answers the rounds, or the refusal's code.
 #[unsafe(no_mangle)]
 pub extern "C" fn walumiren_evaluate(page: &[u8], verdicts: &mut [u8], numbers: &mut [u16]) -> u32
     ensures { λ r. ⌜ Page-evaluated (now (page .entry)) (table (now (verdicts .entry)) (now (numbers .entry))) r (table (now (verdicts .exit)) (now (numbers .exit))) ⌝ }
@@ -33,7 +36,7 @@ pub extern "C" fn walumiren_evaluate(page: &[u8], verdicts: &mut [u8], numbers: 
     }
 }
 
-// Answers 0 if the tables are a certificate of the page, else 65,536 and the refusal's number.
+// Answers 0 if the tables are a certificate of the page, else the refusal's code.
 #[unsafe(no_mangle)]
 pub extern "C" fn walumiren_check(page: &[u8], verdicts: &[u8], numbers: &[u16]) -> u32
     ensures { λ r. ⌜ Page-checked (now (page .entry)) (table (now (verdicts .entry)) (now (numbers .entry))) r ⌝ }

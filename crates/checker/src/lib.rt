@@ -11,22 +11,9 @@ use entries::check_entries;
 use entries::first_unlawful;
 use model::load;
 
-pub mod entries;
-pub mod literals;
-pub mod wants;
-
-// Accepts exactly the certificates of the credentials, and else refuses the first place that breaks a rule.
-fn check_list(credentials: &[Credential], verdicts: &[u8], numbers: &[u16]) -> Result<(), Refusal>
-    ensures { λ r. ⌜ Checked (now (credentials .entry)) (table (now (verdicts .entry)) (now (numbers .entry))) (answered r) ⌝ }
-{
-    if verdicts.len() != Membership::COUNT || numbers.len() != Membership::COUNT {
-        return Err(Refusal::WrongLength);
-    }
-    if let Some(place) = first_unlawful(verdicts, numbers) {
-        return Err(Refusal::EntryUnlawful { place });
-    }
-    check_entries(credentials, verdicts, numbers)
-}
+mod entries;
+mod literals;
+mod wants;
 
 // Accepts exactly the certificates of the source's credentials, and else refuses the first place that breaks a rule.
 pub fn check<S: Source>(source: &S, verdicts: &[u8], numbers: &[u16]) -> Result<(), Refusal>
@@ -39,4 +26,17 @@ pub fn check<S: Source>(source: &S, verdicts: &[u8], numbers: &[u16]) -> Result<
 {
     let credentials = load(source);
     check_list(credentials.list(), verdicts, numbers)
+}
+
+// The same for a list of credentials.
+fn check_list(credentials: &[Credential], verdicts: &[u8], numbers: &[u16]) -> Result<(), Refusal>
+    ensures { λ r. ⌜ Checked (now (credentials .entry)) (table (now (verdicts .entry)) (now (numbers .entry))) (answered r) ⌝ }
+{
+    if verdicts.len() != Membership::COUNT || numbers.len() != Membership::COUNT {
+        return Err(Refusal::WrongLength);
+    }
+    if let Some(place) = first_unlawful(verdicts, numbers) {
+        return Err(Refusal::EntryUnlawful { place });
+    }
+    check_entries(credentials, verdicts, numbers)
 }
