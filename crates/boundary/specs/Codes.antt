@@ -2,13 +2,14 @@
 use Prim.Native.Nat.{ℕ, _+_, _*_, _%_}
 use mathlib.Core.Path.{_≡_}
 use mathlib.Core.List.{List}
+use lib.ListN.{length}
 use Rattle.std.specs.declared.option.Option.{Option}
 use Rattle.std.specs.declared.option.Option.the-variants.{Some, None}
 use Rattle.std.specs.declared.result.Result.{Result}
 use Rattle.std.specs.declared.result.Result.the-variants.{Ok, Err}
 use Rattle.credential.specs.Refusals.{Named, numberIn, entryIn}
 use Rattle.credential.specs.declared.credentials.Credential.{Credential}
-use Rattle.page.specs.Pages.{readPage}
+use Rattle.page.specs.Pages.{readPage, writeAnswer, writeAfter}
 use Rattle.model.specs.Tables.{Table}
 use Rattle.checker.specs.Checks.{Checked}
 use Rattle.evaluator.specs.Evaluations.{Evaluated}
@@ -40,3 +41,15 @@ Checked-as-read (Err e) t r = r ≡ codeOf e
 
 abbrev pub Page-checked : List ℕ → Table → ℕ → Type 0
 Page-checked bytes = Checked-as-read (readPage bytes)
+
+-- how many credentials a page has, or the refusal's code
+abbrev pub Page-read : List ℕ → ℕ → Type 0
+Page-read bytes r = r ≡ coded (λ cs. length cs) (readPage bytes)
+
+-- a page written back into a buffer; a page that is refused changes no byte
+abbrev pub Copied-as-read : Result (List Credential) Named → List ℕ → ℕ → List ℕ → Type 0
+Copied-as-read (Ok creds) before r after = (r ≡ coded (λ n. n) (writeAnswer creds before)) × (after ≡ writeAfter creds before)
+Copied-as-read (Err e) before r after = (r ≡ codeOf e) × (after ≡ before)
+
+abbrev pub Page-copied : List ℕ → List ℕ → ℕ → List ℕ → Type 0
+Page-copied bytes = Copied-as-read (readPage bytes)

@@ -1,14 +1,16 @@
-// What a C or Rust program links: pages evaluated, and certificates checked against pages.
+// What a C or Rust program links: pages read, copied and evaluated, and certificates checked against pages.
 ghost use mathlib.Core.Path.{_≡_};
 ghost use Rattle.credential.specs.Refusals.{named};
 ghost use Rattle.model.specs.Tables.{table};
-ghost use Rattle.boundary.specs.Codes.{codeOf, Page-evaluated, Page-checked};
+ghost use Rattle.boundary.specs.Codes.{codeOf, Page-evaluated, Page-checked, Page-read, Page-copied};
 use checker::check;
 use credential::Refusal;
+use credential::Source;
 use evaluator::evaluate;
 use page::Page;
 use page::pages::calls::PageSource;
 use page::pages::calls::Reading;
+use page::write_page;
 
 // A refusal as a number above every number of rounds: 65,536 times its own, and the place of the entry that it names, or 0.
 fn code(refusal: Refusal) -> u32
@@ -46,6 +48,33 @@ pub extern "C" fn walumiren_check(page: &[u8], verdicts: &[u8], numbers: &[u16])
         Some(refusal) => code(refusal),
         None => match check(&page, verdicts, numbers) {
             Ok(()) => 0,
+            Err(refusal) => code(refusal),
+        },
+    }
+}
+
+// Answers how many credentials the page has, or the refusal's code.
+#[unsafe(no_mangle)]
+pub extern "C" fn walumiren_read_page(page: &[u8]) -> u32
+    ensures { λ r. ⌜ Page-read (now (page .entry)) r ⌝ }
+{
+    let Reading { page, refusal } = Page::read(page);
+    match refusal {
+        Some(refusal) => code(refusal),
+        None => page.count() as u32,
+    }
+}
+
+// Reads the page, writes it into the buffer, and answers how many bytes were written, or the refusal's code.
+#[unsafe(no_mangle)]
+pub extern "C" fn walumiren_copy_page(page: &[u8], out: &mut [u8]) -> u32
+    ensures { λ r. ⌜ Page-copied (now (page .entry)) (now (out .entry)) r (now (out .exit)) ⌝ }
+{
+    let Reading { page, refusal } = Page::read(page);
+    match refusal {
+        Some(refusal) => code(refusal),
+        None => match write_page(&page, out) {
+            Ok(written) => written as u32,
             Err(refusal) => code(refusal),
         },
     }
