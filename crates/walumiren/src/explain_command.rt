@@ -1,8 +1,8 @@
 // `walumiren explain FILE A.R D`: why a membership is true, false or undefined.
 use crate::Outcome;
 use crate::clauses::Body;
-use crate::clauses::clause_body;
-use crate::clauses::head;
+use crate::clauses::bodies::clause_body;
+use crate::clauses::bodies::head;
 use crate::tables::Tables;
 use crate::tables::Verdict;
 use credential::Credential;
