@@ -9,18 +9,15 @@ ghost use Rattle.credential.specs.Letters.{marksOf};
 ghost use Rattle.credential.specs.Refusals.{answered};
 use crate::letters::Letter;
 use crate::numbers::Entity;
-use crate::numbers::EntityDebug;
 use crate::numbers::RoleName;
-use crate::numbers::RoleNameDebug;
 use crate::numbers::entity_calls::EntityPartialEq;
 use crate::numbers::role_name_calls::RoleNamePartialEq;
 use crate::refusals::Refusal;
 use crate::roles::Role;
-use crate::roles::RoleDebug;
 use crate::roles::RolePartialEq;
 
 // A credential: its head is the role that it is about, and the rest says who belongs to that.
-#[derive(Clone, Copy, Debug)]
+#[derive(Clone, Copy)]
 pub enum Credential {
     Member {
         head: Role,

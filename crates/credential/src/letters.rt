@@ -5,7 +5,7 @@ ghost use Rattle.credential.specs.Refusals.{named};
 use crate::refusals::Refusal;
 
 // The kinds of credentials.
-#[derive(Clone, Copy, Debug)]
+#[derive(Clone, Copy)]
 pub enum Letter {
     Member,
     Inclusion,
@@ -15,7 +15,7 @@ pub enum Letter {
 }
 
 // What belongs into a field.
-#[derive(Clone, Copy, Debug)]
+#[derive(Clone, Copy)]
 pub enum Mark {
     Entity,
     RoleName,
@@ -23,7 +23,7 @@ pub enum Mark {
 }
 
 // Why a field does not fit its mark: blank or filled where it should not be, or a number out of range.
-#[derive(Clone, Copy, Debug)]
+#[derive(Clone, Copy)]
 pub enum Misfit {
     Form,
     Range,

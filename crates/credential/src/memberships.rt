@@ -5,13 +5,11 @@ ghost use Rattle.std.specs.Options.{Cases};
 ghost use Rattle.std.specs.declared.option.Option.the-variants.{Some};
 ghost use Rattle.credential.specs.Memberships.{place, membershipAt};
 use crate::numbers::Entity;
-use crate::numbers::EntityDebug;
 use crate::numbers::RoleName;
 use crate::roles::Role;
-use crate::roles::RoleDebug;
 
 // That an entity belongs to a role.
-#[derive(Clone, Copy, Debug)]
+#[derive(Clone, Copy)]
 pub struct Membership {
     pub role: Role,
     pub member: Entity,

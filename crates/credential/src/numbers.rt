@@ -5,7 +5,7 @@ pub mod entity_calls;
 pub mod role_name_calls;
 
 // An entity, by its number from 1 to 32.
-#[derive(Clone, Copy, Debug)]
+#[derive(Clone, Copy)]
 pub struct Entity {
     number: u8,
     ghost low: { 1 ≤ number },
@@ -13,7 +13,7 @@ pub struct Entity {
 }
 
 // A role name, by its number from 1 to 16.
-#[derive(Clone, Copy, Debug)]
+#[derive(Clone, Copy)]
 pub struct RoleName {
     number: u8,
     ghost low: { 1 ≤ number },

@@ -2,14 +2,12 @@
 ghost use mathlib.Core.Path.{_≡_};
 ghost use Rattle.std.specs.Orderings.{Decides};
 use crate::numbers::Entity;
-use crate::numbers::EntityDebug;
 use crate::numbers::RoleName;
-use crate::numbers::RoleNameDebug;
 use crate::numbers::entity_calls::EntityPartialEq;
 use crate::numbers::role_name_calls::RoleNamePartialEq;
 
 // A role name in the hands of the entity that defines its members, shown as `1.3`.
-#[derive(Clone, Copy, Debug)]
+#[derive(Clone, Copy)]
 pub struct Role {
     pub owner: Entity,
     pub name: RoleName,

@@ -8,7 +8,6 @@ ghost use Rattle.register_tests.specs.Calls.{called, numberAnswered, undriven,
 use credential::Credential;
 use credential::Refusal;
 use credential::Source;
-use credential::credentials::CredentialDebug;
 use register::Register;
 use std::alloc::AllocError;
 use std::alloc::Global;
@@ -18,7 +17,7 @@ mod tests;
 pub mod trials;
 
 // A call of a register.
-#[derive(Clone, Copy, Debug)]
+#[derive(Clone, Copy)]
 pub enum Call {
     Publish(Credential),
     Withdraw(usize),
