@@ -1,0 +1,11 @@
+use mathlib.Core.Path.{ap, _∙_}
+use mathlib.Core.List.{_++_}
+use borrow.Author.Needs.{needs}
+use lib.ListN.{length}
+use Rattle.vault.proofs.Filling.{line-filled}
+use Rattle.vault.proofs.statement.writing.write_total_line.Needs as need
+
+pub returns : need.returns
+returns c =
+    line-filled (c .args .line .now) (c .write-blanks .last .columns) (c .write-row .last .line) (search needs) (search needs)
+    ∙ (λ j. c .write-blanks .ensures j ++ c .write-row .ensures j)

@@ -1,0 +1,2 @@
+// What lies beneath the vaults: the statement's writer.
+pub mod statement;
