@@ -1,2 +1,3 @@
-// What lies beneath the vaults: the statement's writer.
+// What lies beneath the vaults: slips, the book of leases, and the statement's writer.
+pub mod slips;
 pub mod statement;
