@@ -1,0 +1,83 @@
+-- A record as an entry of the book, what a call does to it, and which is found first.
+use mathlib.Core.Bool.{Bool, true, false, cond}
+use mathlib.Core.List.{List, [], _∷_}
+use Prim.Native.Nat.{ℕ, _+_}
+use lib.Dec.{eqb}
+use Rattle.std.specs.declared.option.Option.{Option}
+use Rattle.std.specs.declared.option.Option.the-variants.{Some, None}
+use Rattle.history.specs.Words as words
+use Rattle.history.specs.Contents.{Entry, is-free, is-offered, is-held}
+use Rattle.vault.specs.declared.book.Lease.{Lease}
+use Rattle.vault.specs.declared.book.Record.{Record}
+use Rattle.vault.specs.declared.book.Record.the-variants.{Free, Offered, Held}
+use Rattle.vault.specs.declared.book.Turn.{Turn}
+use Rattle.vault.specs.declared.book.Turn.the-variants.{Offer, Draw, Decline, HandBack}
+
+abbrev pub lease : Lease → words.Lease
+lease l = record { serial = l .serial; membership = l .membership }
+
+abbrev pub entry : Record → Entry
+entry Free = is-free
+entry (Offered l) = is-offered (lease l)
+entry (Held l) = is-held (lease l)
+
+-- state and call go together
+abbrev pub goes : Entry → Turn → Bool
+goes is-free (Offer l) = true
+goes is-free Draw = false
+goes is-free Decline = false
+goes is-free HandBack = false
+goes (is-offered x) (Offer l) = false
+goes (is-offered x) Draw = true
+goes (is-offered x) Decline = true
+goes (is-offered x) HandBack = false
+goes (is-held x) (Offer l) = false
+goes (is-held x) Draw = false
+goes (is-held x) Decline = false
+goes (is-held x) HandBack = true
+
+-- the entry after a call: that of another state is left
+abbrev pub turned : Entry → Turn → Entry
+turned is-free (Offer l) = is-offered (lease l)
+turned is-free Draw = is-free
+turned is-free Decline = is-free
+turned is-free HandBack = is-free
+turned (is-offered x) (Offer l) = is-offered x
+turned (is-offered x) Draw = is-held x
+turned (is-offered x) Decline = is-free
+turned (is-offered x) HandBack = is-offered x
+turned (is-held x) (Offer l) = is-held x
+turned (is-held x) Draw = is-held x
+turned (is-held x) Decline = is-held x
+turned (is-held x) HandBack = is-free
+
+-- the entry with its lease held
+abbrev pub as-held : Entry → Entry
+as-held is-free = is-free
+as-held (is-offered x) = is-held x
+as-held (is-held x) = is-held x
+
+-- the lease with a serial, held or not yet
+abbrev pub is-of : ℕ → Bool → Entry → Bool
+is-of n b is-free = false
+is-of n b (is-offered x) = cond b false (eqb (x .serial) n)
+is-of n b (is-held x) = cond b (eqb (x .serial) n) false
+
+abbrev pub is-spare : Entry → Bool
+is-spare is-free = true
+is-spare (is-offered x) = false
+is-spare (is-held x) = false
+
+-- an open lease of the role name with this number
+abbrev pub is-open-for : ℕ → Entry → Bool
+is-open-for r is-free = false
+is-open-for r (is-offered x) = eqb (x .membership .role .name .number) r
+is-open-for r (is-held x) = eqb (x .membership .role .name .number) r
+
+-- the first index from k on at which the test holds
+unfoldable pub first-from : {X : Type 0} → (X → Bool) → ℕ → List X → Option ℕ
+first-from p k [] = None
+first-from p k (x ∷ xs) = cond (p x) (Some k) (first-from p (k + 1) xs)
+
+abbrev pub first : {X : Type 0} → (X → Bool) → List X → Option ℕ
+first p xs = first-from p 0 xs

@@ -1,0 +1,76 @@
+// What a call does to a record, and what can be asked of one.
+ghost use mathlib.Core.Path.{_≡_};
+ghost use Rattle.vault.specs.Entries.{entry, turned, goes, as-held, is-of, is-spare, is-open-for};
+use crate::book::Record;
+use crate::book::Turn;
+use credential::RoleName;
+
+impl Record {
+    // State and call together decide: any other pair leaves the record, and says so.
+    pub(crate) fn turn(&mut self, call: Turn) -> bool
+        ensures answer { λ r. ⌜ r ≡ goes (entry (now (self .entry))) call ⌝ }
+        ensures after { λ _. ⌜ entry (now (self .exit)) ≡ turned (entry (now (self .entry))) call ⌝ }
+    {
+        match (*self, call) {
+            (Record::Free, Turn::Offer(lease)) => {
+                *self = Record::Offered(lease);
+                true
+            }
+            (Record::Offered(_), Turn::Draw) => {
+                *self = self.drawn();
+                true
+            }
+            (Record::Offered(_), Turn::Decline) => {
+                *self = Record::Free;
+                true
+            }
+            (Record::Held(_), Turn::HandBack) => {
+                *self = Record::Free;
+                true
+            }
+            _ => false,
+        }
+    }
+
+    // The record with its lease held.
+    fn drawn(self) -> Record
+        ensures { λ r. ⌜ entry r ≡ as-held (entry self) ⌝ }
+    {
+        match self {
+            Record::Free => Record::Free,
+            Record::Offered(lease) => Record::Held(lease),
+            Record::Held(lease) => Record::Held(lease),
+        }
+    }
+
+    // It has the lease with this serial, held or not yet.
+    pub(crate) fn is_of(self, serial: u32, held: bool) -> bool
+        ensures { λ r. ⌜ r ≡ is-of serial held (entry self) ⌝ }
+    {
+        match self {
+            Record::Free => false,
+            Record::Offered(lease) => !held && lease.serial == serial,
+            Record::Held(lease) => held && lease.serial == serial,
+        }
+    }
+
+    pub(crate) fn is_free(self) -> bool
+        ensures { λ r. ⌜ r ≡ is-spare (entry self) ⌝ }
+    {
+        match self {
+            Record::Free => true,
+            _ => false,
+        }
+    }
+
+    // It has an open lease of this role name.
+    pub(crate) fn is_open_for(self, name: RoleName) -> bool
+        ensures { λ r. ⌜ r ≡ is-open-for (name .number) (entry self) ⌝ }
+    {
+        match self {
+            Record::Free => false,
+            Record::Offered(lease) => lease.membership.role.name.number() == name.number(),
+            Record::Held(lease) => lease.membership.role.name.number() == name.number(),
+        }
+    }
+}
