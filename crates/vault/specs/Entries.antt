@@ -1,12 +1,15 @@
 -- A record as an entry of the book, what a call does to it, and which is found first.
+use mathlib.Core.Path.{_≡_}
 use mathlib.Core.Bool.{Bool, true, false, cond}
 use mathlib.Core.List.{List, [], _∷_}
-use Prim.Native.Nat.{ℕ, _+_}
+use Prim.Native.Nat.{ℕ, _+_, _<_}
 use lib.Dec.{eqb}
+use lib.ListN.{length}
 use Rattle.std.specs.declared.option.Option.{Option}
 use Rattle.std.specs.declared.option.Option.the-variants.{Some, None}
 use Rattle.history.specs.Words as words
-use Rattle.history.specs.Contents.{Entry, is-free, is-offered, is-held}
+use Rattle.history.specs.Contents.{Entry, is-free, is-offered, is-held, record-of, in-book}
+use Rattle.history.specs.Steps.{First-free, Record-of}
 use Rattle.vault.specs.declared.book.Lease.{Lease}
 use Rattle.vault.specs.declared.book.Record.{Record}
 use Rattle.vault.specs.declared.book.Record.the-variants.{Free, Offered, Held}
@@ -81,3 +84,13 @@ first-from p k (x ∷ xs) = cond (p x) (Some k) (first-from p (k + 1) xs)
 
 abbrev pub first : {X : Type 0} → (X → Bool) → List X → Option ℕ
 first p xs = first-from p 0 xs
+
+-- what a search for the lease with a serial found: its record, or that there is none
+abbrev pub Found : List Entry → ℕ → Bool → Option ℕ → Type 0
+Found es n b None = (i : ℕ) (x : words.Lease) → Record-of (record-of b) es n i x → ⊥
+Found es n b (Some i) = (x : words.Lease) × Record-of (record-of b) es n i x
+
+-- what a search for a free record found: the first, in a book that is not full, or that all are open
+abbrev pub Spare : List Entry → Option ℕ → Type 0
+Spare es None = in-book (λ x b. 1) es ≡ length es
+Spare es (Some i) = First-free es i × (in-book (λ x b. 1) es < length es)

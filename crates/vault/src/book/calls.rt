@@ -5,7 +5,7 @@ ghost use lib.ListN.{getD, set, replicate};
 ghost use Rattle.std.specs.Vec.{made};
 ghost use Rattle.history.specs.Words.{for};
 ghost use Rattle.history.specs.Contents.{is-free, in-book};
-ghost use Rattle.vault.specs.Entries.{turned, goes, is-of, is-spare, first};
+ghost use Rattle.vault.specs.Entries.{turned, goes, is-of, is-spare, first, Found, Spare};
 ghost use Rattle.vault.specs.Books.{entries};
 use crate::book::Book;
 use crate::book::Record;
@@ -32,7 +32,8 @@ impl Book {
 
     // The first record that has the lease with this serial, held or not yet.
     pub(crate) fn find(&self, serial: u32, held: bool) -> Option<usize>
-        ensures { λ r. ⌜ r ≡ first (is-of serial held) (entries (now (self .entry))) ⌝ }
+        ensures value { λ r. ⌜ r ≡ first (is-of serial held) (entries (now (self .entry))) ⌝ }
+        ensures lease { λ r. ⌜ Found (entries (now (self .entry))) serial held r ⌝ }
     {
         for i in 0..RECORDS {
             if self.table.records[i].is_of(serial, held) {
@@ -44,7 +45,8 @@ impl Book {
 
     // The first free record.
     pub(crate) fn find_free(&self) -> Option<usize>
-        ensures { λ r. ⌜ r ≡ first is-spare (entries (now (self .entry))) ⌝ }
+        ensures value { λ r. ⌜ r ≡ first is-spare (entries (now (self .entry))) ⌝ }
+        ensures spare { λ r. ⌜ Spare (entries (now (self .entry))) r ⌝ }
     {
         for i in 0..RECORDS {
             if self.table.records[i].is_free() {
