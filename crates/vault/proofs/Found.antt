@@ -5,7 +5,9 @@ use mathlib.Core.Bool.{Bool, true, false, cond}
 use mathlib.Core.List.{List, [], _∷_}
 use native.Mathlib.Omega.{arith}
 use native.Mathlib.Nat.{not-suc-le-zero, le-of-suc-le-suc}
+use lib.Dec.{eqb}
 use lib.ListN.{length, getD}
+use Rattle.std.specs.Options.{isSome}
 use Rattle.std.specs.declared.option.Option.{Option}
 use Rattle.std.specs.declared.option.Option.the-variants.{Some, None}
 use Rattle.std.proofs.shelf.Lists.{getD-default}
@@ -13,7 +15,7 @@ use Rattle.std.proofs.shelf.Tests.{eqb-true, eq-eqb}
 use Rattle.history.specs.Words.{Lease}
 use Rattle.history.specs.Contents.{Entry, is-free, is-offered, is-held, record-of, in-book}
 use Rattle.history.specs.Steps.{First-free, Record-of}
-use Rattle.vault.specs.Entries.{is-of, is-spare, first, first-from, Found, Spare}
+use Rattle.vault.specs.Entries.{lease-in, is-of, is-spare, first, first-from, Spare}
 
 -- the first place from k on: the test holds there, and at none before
 abbrev First : {X : Type 0} → (X → Bool) → ℕ → ℕ → List X → Type 0
@@ -48,30 +50,38 @@ first-none {X} p k (x ∷ xs) e = go (p x) refl e (first-none p (k + 1) xs)
     go true t q f = let z : _≡_ {A = ℕ} 0 1 = cc in absurd (omega arith)
     go false t q f = earlier p x xs (length xs) t (f q)
 
--- the test for a lease, and the lease
-has-lease : (n : ℕ) (b : Bool) (e : Entry) → is-of n b e ≡ true → (x : Lease) × (e ≡ record-of b x) × (x .serial ≡ n)
-has-lease n b is-free q = let z : _≡_ {A = ℕ} 0 1 = cc in absurd (omega arith)
-has-lease n true (is-offered x) q = let z : _≡_ {A = ℕ} 0 1 = cc in absurd (omega arith)
-has-lease n false (is-offered x) q = (x, refl, eqb-true (x .serial) n q)
-has-lease n true (is-held x) q = (x, refl, eqb-true (x .serial) n q)
-has-lease n false (is-held x) q = let z : _≡_ {A = ℕ} 0 1 = cc in absurd (omega arith)
+-- the lease that an entry has, and the entry
+pub its-entry : (n : ℕ) (b : Bool) (e : Entry) (x : Lease) → Some x ≡ lease-in n b e → (e ≡ record-of b x) × (x .serial ≡ n)
+its-entry n b is-free x q = let z : _≡_ {A = ℕ} 0 1 = cc in absurd (omega arith)
+its-entry n true (is-offered y) x q = let z : _≡_ {A = ℕ} 0 1 = cc in absurd (omega arith)
+its-entry n false (is-offered y) x q = go (eqb (y .serial) n) refl q
+  where
+    go : (t : Bool) → eqb (y .serial) n ≡ t → Some x ≡ cond t (Some y) None → (is-offered y ≡ is-offered x) × (x .serial ≡ n)
+    go true e k = let s : y ≡ x = cc in (ap is-offered s, ap (λ (l : Lease). l .serial) (sym s) ∙ eqb-true (y .serial) n e)
+    go false e k = let z : _≡_ {A = ℕ} 0 1 = cc in absurd (omega arith)
+its-entry n true (is-held y) x q = go (eqb (y .serial) n) refl q
+  where
+    go : (t : Bool) → eqb (y .serial) n ≡ t → Some x ≡ cond t (Some y) None → (is-held y ≡ is-held x) × (x .serial ≡ n)
+    go true e k = let s : y ≡ x = cc in (ap is-held s, ap (λ (l : Lease). l .serial) (sym s) ∙ eqb-true (y .serial) n e)
+    go false e k = let z : _≡_ {A = ℕ} 0 1 = cc in absurd (omega arith)
+its-entry n false (is-held y) x q = let z : _≡_ {A = ℕ} 0 1 = cc in absurd (omega arith)
 
-lease-has : (n : ℕ) (b : Bool) (x : Lease) → x .serial ≡ n → is-of n b (record-of b x) ≡ true
-lease-has n true x q = eq-eqb (x .serial) n q
-lease-has n false x q = eq-eqb (x .serial) n q
+has-lease : (n : ℕ) (b : Bool) (x : Lease) → x .serial ≡ n → is-of n b (record-of b x) ≡ true
+has-lease n true x q = ap (λ (t : Bool). isSome (cond t (Some x) None)) (eq-eqb (x .serial) n q)
+has-lease n false x q = ap (λ (t : Bool). isSome (cond t (Some x) None)) (eq-eqb (x .serial) n q)
 
-pub found-lease : (es : List Entry) (n : ℕ) (b : Bool) (r : Option ℕ) → r ≡ first (is-of n b) es → Found es n b r
-found-lease es n b None q = λ i x h.
+-- the record that was found
+pub found-lease : (es : List Entry) (n : ℕ) (b : Bool) (i : ℕ) (x : Lease) → i < length es → Some x ≡ lease-in n b (getD es i is-free) → Record-of (record-of b) es n i x
+found-lease es n b i x h q =
+    let t = its-entry n b (getD es i is-free) x q in
+    ((h, λ d. getD-default es i d is-free h ∙ t .0), t .1)
+
+pub found-none : (es : List Entry) (n : ℕ) (b : Bool) → None ≡ first (is-of n b) es → (i : ℕ) (x : Lease) → Record-of (record-of b) es n i x → ⊥
+found-none es n b q i x h =
     let f : is-of n b (getD es i is-free) ≡ false = first-none (is-of n b) 0 es (sym q) i is-free (h .0 .0) in
-    let t : is-of n b (getD es i is-free) ≡ true = ap (is-of n b) (h .0 .1 is-free) ∙ lease-has n b x (h .1) in
+    let t : is-of n b (getD es i is-free) ≡ true = ap (is-of n b) (h .0 .1 is-free) ∙ has-lease n b x (h .1) in
     let z : _≡_ {A = ℕ} 0 1 = cc in
-    absurd (omega arith)
-found-lease es n b (Some i) q =
-    let f = first-some (is-of n b) 0 i es (sym q) in
-    let w : f .0 ≡ i = omega (arith, f .1) in
-    let s : i < length es = omega (arith, f .2) in
-    let t = has-lease n b (getD es i is-free) (subst (λ (j : ℕ). is-of n b (getD es j is-free) ≡ true) w (f .3 is-free)) in
-    (t .0, ((s, λ d. getD-default es i d is-free s ∙ t .1), t .2))
+    omega arith
 
 -- a full book, and one that is not
 one-spare : (e : Entry) → is-spare e ≡ true → e ≡ is-free

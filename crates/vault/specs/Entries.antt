@@ -5,6 +5,7 @@ use mathlib.Core.List.{List, [], _∷_}
 use Prim.Native.Nat.{ℕ, _+_, _<_}
 use lib.Dec.{eqb}
 use lib.ListN.{length}
+use Rattle.std.specs.Options.{isSome}
 use Rattle.std.specs.declared.option.Option.{Option}
 use Rattle.std.specs.declared.option.Option.the-variants.{Some, None}
 use Rattle.history.specs.Words as words
@@ -60,11 +61,19 @@ as-held is-free = is-free
 as-held (is-offered x) = is-held x
 as-held (is-held x) = is-held x
 
--- the lease with a serial, held or not yet
+-- the lease with a serial, held or not yet, if the entry has it
+abbrev pub lease-in : ℕ → Bool → Entry → Option words.Lease
+lease-in n b is-free = None
+lease-in n b (is-offered x) = cond b None (cond (eqb (x .serial) n) (Some x) None)
+lease-in n b (is-held x) = cond b (cond (eqb (x .serial) n) (Some x) None) None
+
 abbrev pub is-of : ℕ → Bool → Entry → Bool
-is-of n b is-free = false
-is-of n b (is-offered x) = cond b false (eqb (x .serial) n)
-is-of n b (is-held x) = cond b (eqb (x .serial) n) false
+is-of n b e = isSome (lease-in n b e)
+
+-- the lease that was read, if any
+abbrev pub read : Option Lease → Option words.Lease
+read None = None
+read (Some x) = Some (lease x)
 
 abbrev pub is-spare : Entry → Bool
 is-spare is-free = true
@@ -85,10 +94,15 @@ first-from p k (x ∷ xs) = cond (p x) (Some k) (first-from p (k + 1) xs)
 abbrev pub first : {X : Type 0} → (X → Bool) → List X → Option ℕ
 first p xs = first-from p 0 xs
 
--- what a search for the lease with a serial found: its record, or that there is none
-abbrev pub Found : List Entry → ℕ → Bool → Option ℕ → Type 0
+-- the index that was found, if any
+abbrev pub index : Option (ℕ × Lease) → Option ℕ
+index None = None
+index (Some q) = Some (q .0)
+
+-- what a search for the lease with a serial found: its record and the lease, or that there is none
+abbrev pub Found : List Entry → ℕ → Bool → Option (ℕ × Lease) → Type 0
 Found es n b None = (i : ℕ) (x : words.Lease) → Record-of (record-of b) es n i x → ⊥
-Found es n b (Some i) = (x : words.Lease) × Record-of (record-of b) es n i x
+Found es n b (Some q) = Record-of (record-of b) es n (q .0) (lease (q .1))
 
 -- what a search for a free record found: the first, in a book that is not full, or that all are open
 abbrev pub Spare : List Entry → Option ℕ → Type 0

@@ -5,9 +5,10 @@ ghost use lib.ListN.{getD, set, replicate};
 ghost use Rattle.std.specs.Vec.{made};
 ghost use Rattle.history.specs.Words.{for};
 ghost use Rattle.history.specs.Contents.{is-free, in-book};
-ghost use Rattle.vault.specs.Entries.{turned, goes, is-of, is-spare, first, Found, Spare};
+ghost use Rattle.vault.specs.Entries.{turned, goes, is-of, is-spare, first, index, Found, Spare};
 ghost use Rattle.vault.specs.Books.{entries};
 use crate::book::Book;
+use crate::book::Lease;
 use crate::book::Record;
 use crate::book::Table;
 use crate::book::Turn;
@@ -30,14 +31,14 @@ impl Book {
         })
     }
 
-    // The first record that has the lease with this serial, held or not yet.
-    pub(crate) fn find(&self, serial: u32, held: bool) -> Option<usize>
-        ensures value { λ r. ⌜ r ≡ first (is-of serial held) (entries (now (self .entry))) ⌝ }
+    // The first record with the lease of this serial, held or not yet, and that lease.
+    pub(crate) fn find(&self, serial: u32, held: bool) -> Option<(usize, Lease)>
+        ensures value { λ r. ⌜ index r ≡ first (is-of serial held) (entries (now (self .entry))) ⌝ }
         ensures lease { λ r. ⌜ Found (entries (now (self .entry))) serial held r ⌝ }
     {
         for i in 0..RECORDS {
-            if self.table.records[i].is_of(serial, held) {
-                return Some(i);
+            if let Some(lease) = self.table.records[i].lease_of(serial, held) {
+                return Some((i, lease));
             }
         }
         None

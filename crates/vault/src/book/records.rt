@@ -1,6 +1,7 @@
 // What a call does to a record, and what can be asked of one.
 ghost use mathlib.Core.Path.{_≡_};
-ghost use Rattle.vault.specs.Entries.{entry, turned, goes, as-held, is-of, is-spare, is-open-for};
+ghost use Rattle.vault.specs.Entries.{entry, turned, goes, as-held, lease-in, read, is-spare, is-open-for};
+use crate::book::Lease;
 use crate::book::Record;
 use crate::book::Turn;
 use credential::RoleName;
@@ -43,14 +44,22 @@ impl Record {
         }
     }
 
-    // It has the lease with this serial, held or not yet.
-    pub(crate) fn is_of(self, serial: u32, held: bool) -> bool
-        ensures { λ r. ⌜ r ≡ is-of serial held (entry self) ⌝ }
+    // Its lease, if that has this serial and is held, or is not yet.
+    pub(crate) fn lease_of(self, serial: u32, held: bool) -> Option<Lease>
+        ensures { λ r. ⌜ read r ≡ lease-in serial held (entry self) ⌝ }
     {
         match self {
-            Record::Free => false,
-            Record::Offered(lease) => !held && lease.serial == serial,
-            Record::Held(lease) => held && lease.serial == serial,
+            Record::Free => None,
+            Record::Offered(lease) => if !held && lease.serial == serial {
+                Some(lease)
+            } else {
+                None
+            },
+            Record::Held(lease) => if held && lease.serial == serial {
+                Some(lease)
+            } else {
+                None
+            },
         }
     }
 
