@@ -1,11 +1,10 @@
 -- The steps of a search through the book, of a count over it, and of a change of one record.
-use Prim.Native.Nat.{ℕ, suc, _+_, _-_, _<_, _≤_}
+use Prim.Native.Nat.{ℕ, _+_, _<_, _≤_}
 use mathlib.Core.Path.{_≡_, refl, sym, ap, _∙_}
 use mathlib.Core.Bool.{Bool, true, false}
-use mathlib.Core.List.{List, [], _∷_, map}
+use mathlib.Core.List.{List, map}
 use native.Mathlib.Omega.{arith}
 use lib.ListN.{length, getD, drop, set}
-use Rattle.std.specs.declared.option.Option.{Option}
 use Rattle.std.specs.declared.option.Option.the-variants.{Some, None}
 use Rattle.std.proofs.shelf.Lists.{at-drop-more, at-drop-all, getD-map, length-map, map-set}
 use Rattle.std.proofs.shelf.Tests.{cond-true, cond-false}
@@ -13,7 +12,7 @@ use Rattle.history.specs.Words.{total, one-if, for}
 use Rattle.history.specs.Contents.{Entry, is-free, is-offered, is-held, opened, in-book}
 use Rattle.vault.specs.declared.book.Record.{Record}
 use Rattle.vault.specs.declared.book.Turn.{Turn}
-use Rattle.vault.specs.Entries.{entry, goes, turned, is-open-for, first, first-from}
+use Rattle.vault.specs.Entries.{entry, goes, turned, open-lease, is-for, first, first-from}
 
 -- the entry of the record that is read
 pub entry-read : (rs : List Record) (i : ℕ) (x : Record) → i < length rs → x ≡ getD rs i x → getD (map entry rs) i is-free ≡ entry x
@@ -42,12 +41,12 @@ module _ (p : Entry → Bool) (rs : List Record) (i : ℕ) where
   nowhere h q = sym (q ∙ at-drop-all (first-from p i) (map entry rs) i (omega (arith, length-map rs entry)))
 
 -- one more record counted
-one-open : (r : ℕ) (e : Entry) → opened (λ l b. for r l) e ≡ one-if (is-open-for r e)
+one-open : (r : ℕ) (e : Entry) → opened (λ l b. for r l) e ≡ one-if (is-for r (open-lease e))
 one-open r is-free = refl
 one-open r (is-offered x) = refl
 one-open r (is-held x) = refl
 
-pub counted : (r : ℕ) (rs : List Record) (i n : ℕ) (x : Record) (t : Bool) → i < length rs → x ≡ getD rs i x → t ≡ is-open-for r (entry x)
+pub counted : (r : ℕ) (rs : List Record) (i n : ℕ) (x : Record) (t : Bool) → i < length rs → x ≡ getD rs i x → t ≡ is-for r (open-lease (entry x))
     → n + in-book (λ l b. for r l) (drop i (map entry rs)) ≡ in-book (λ l b. for r l) (map entry rs)
     → n + one-if t + in-book (λ l b. for r l) (drop (i + 1) (map entry rs)) ≡ in-book (λ l b. for r l) (map entry rs)
 counted r rs i n x t h e k q =

@@ -14,7 +14,7 @@ use Rattle.std.proofs.shelf.Lists.{getD-default}
 use Rattle.std.proofs.shelf.Tests.{eqb-true, eq-eqb}
 use Rattle.history.specs.Words.{Lease}
 use Rattle.history.specs.Contents.{Entry, is-free, is-offered, is-held, record-of, in-book}
-use Rattle.history.specs.Steps.{First-free, Record-of}
+use Rattle.history.specs.Steps.{Record-of}
 use Rattle.vault.specs.Entries.{lease-in, is-of, is-spare, first, first-from, Spare}
 
 -- the first place from k on: the test holds there, and at none before

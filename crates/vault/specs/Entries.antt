@@ -1,6 +1,6 @@
 -- A record as an entry of the book, what a call does to it, and which is found first.
 use mathlib.Core.Path.{_≡_}
-use mathlib.Core.Bool.{Bool, true, false, cond}
+use mathlib.Core.Bool.{Bool, false, cond, not}
 use mathlib.Core.List.{List, [], _∷_}
 use Prim.Native.Nat.{ℕ, _+_, _<_}
 use lib.Dec.{eqb}
@@ -17,6 +17,7 @@ use Rattle.vault.specs.declared.book.Record.the-variants.{Free, Offered, Held}
 use Rattle.vault.specs.declared.book.Turn.{Turn}
 use Rattle.vault.specs.declared.book.Turn.the-variants.{Offer, Draw, Decline, HandBack}
 
+-- a lease and a record, as the history has them
 abbrev pub lease : Lease → words.Lease
 lease l = record { serial = l .serial; membership = l .membership }
 
@@ -25,35 +26,31 @@ entry Free = is-free
 entry (Offered l) = is-offered (lease l)
 entry (Held l) = is-held (lease l)
 
--- state and call go together
-abbrev pub goes : Entry → Turn → Bool
-goes is-free (Offer l) = true
-goes is-free Draw = false
-goes is-free Decline = false
-goes is-free HandBack = false
-goes (is-offered x) (Offer l) = false
-goes (is-offered x) Draw = true
-goes (is-offered x) Decline = true
-goes (is-offered x) HandBack = false
-goes (is-held x) (Offer l) = false
-goes (is-held x) Draw = false
-goes (is-held x) Decline = false
-goes (is-held x) HandBack = true
+-- state and call together decide: what a call makes of an entry, if the two go together
+abbrev pub after : Entry → Turn → Option Entry
+after is-free (Offer l) = Some (is-offered (lease l))
+after is-free Draw = None
+after is-free Decline = None
+after is-free HandBack = None
+after (is-offered x) (Offer l) = None
+after (is-offered x) Draw = Some (is-held x)
+after (is-offered x) Decline = Some is-free
+after (is-offered x) HandBack = None
+after (is-held x) (Offer l) = None
+after (is-held x) Draw = None
+after (is-held x) Decline = None
+after (is-held x) HandBack = Some is-free
 
--- the entry after a call: that of another state is left
+abbrev pub goes : Entry → Turn → Bool
+goes e t = isSome (after e t)
+
+-- the entry after a call: one that does not go with it is left
+abbrev pub or-left : Entry → Option Entry → Entry
+or-left e None = e
+or-left e (Some f) = f
+
 abbrev pub turned : Entry → Turn → Entry
-turned is-free (Offer l) = is-offered (lease l)
-turned is-free Draw = is-free
-turned is-free Decline = is-free
-turned is-free HandBack = is-free
-turned (is-offered x) (Offer l) = is-offered x
-turned (is-offered x) Draw = is-held x
-turned (is-offered x) Decline = is-free
-turned (is-offered x) HandBack = is-offered x
-turned (is-held x) (Offer l) = is-held x
-turned (is-held x) Draw = is-held x
-turned (is-held x) Decline = is-held x
-turned (is-held x) HandBack = is-free
+turned e t = or-left e (after e t)
 
 -- the entry with its lease held
 abbrev pub as-held : Entry → Entry
@@ -75,16 +72,19 @@ abbrev pub read : Option Lease → Option words.Lease
 read None = None
 read (Some x) = Some (lease x)
 
-abbrev pub is-spare : Entry → Bool
-is-spare is-free = true
-is-spare (is-offered x) = false
-is-spare (is-held x) = false
+-- the open lease of an entry: open is not free
+abbrev pub open-lease : Entry → Option words.Lease
+open-lease is-free = None
+open-lease (is-offered x) = Some x
+open-lease (is-held x) = Some x
 
--- an open lease of the role name with this number
-abbrev pub is-open-for : ℕ → Entry → Bool
-is-open-for r is-free = false
-is-open-for r (is-offered x) = eqb (x .membership .role .name .number) r
-is-open-for r (is-held x) = eqb (x .membership .role .name .number) r
+abbrev pub is-spare : Entry → Bool
+is-spare e = not (isSome (open-lease e))
+
+-- a lease of the role name with this number
+abbrev pub is-for : ℕ → Option words.Lease → Bool
+is-for r None = false
+is-for r (Some x) = eqb (x .membership .role .name .number) r
 
 -- the first index from k on at which the test holds
 unfoldable pub first-from : {X : Type 0} → (X → Bool) → ℕ → List X → Option ℕ

@@ -1,6 +1,6 @@
 // What a call does to a record, and what can be asked of one.
 ghost use mathlib.Core.Path.{_≡_};
-ghost use Rattle.vault.specs.Entries.{entry, turned, goes, as-held, lease-in, read, is-spare, is-open-for};
+ghost use Rattle.vault.specs.Entries.{entry, turned, goes, as-held, lease-in, read, open-lease, is-spare, is-for};
 use crate::book::Lease;
 use crate::book::Record;
 use crate::book::Turn;
@@ -63,23 +63,33 @@ impl Record {
         }
     }
 
+    // Its open lease: open is not free.
+    fn open_lease(self) -> Option<Lease>
+        ensures { λ r. ⌜ read r ≡ open-lease (entry self) ⌝ }
+    {
+        match self {
+            Record::Free => None,
+            Record::Offered(lease) => Some(lease),
+            Record::Held(lease) => Some(lease),
+        }
+    }
+
     pub(crate) fn is_free(self) -> bool
         ensures { λ r. ⌜ r ≡ is-spare (entry self) ⌝ }
     {
-        match self {
-            Record::Free => true,
-            _ => false,
+        match self.open_lease() {
+            Some(_) => false,
+            None => true,
         }
     }
 
     // It has an open lease of this role name.
     pub(crate) fn is_open_for(self, name: RoleName) -> bool
-        ensures { λ r. ⌜ r ≡ is-open-for (name .number) (entry self) ⌝ }
+        ensures { λ r. ⌜ r ≡ is-for (name .number) (open-lease (entry self)) ⌝ }
     {
-        match self {
-            Record::Free => false,
-            Record::Offered(lease) => lease.membership.role.name.number() == name.number(),
-            Record::Held(lease) => lease.membership.role.name.number() == name.number(),
+        match self.open_lease() {
+            Some(lease) => lease.membership.role.name.number() == name.number(),
+            None => false,
         }
     }
 }

@@ -1,15 +1,14 @@
-use Prim.Native.Nat.{ℕ, _<_, _≤_}
+use Prim.Native.Nat.{_<_, _≤_}
 use mathlib.Core.Path.{_≡_, sym, ap, _∙_}
-use mathlib.Core.Bool.{Bool, true, false}
 use native.Mathlib.Omega.{arith}
-use lib.ListN.{length, getD}
+use lib.ListN.{length}
 use Rattle.std.specs.Of.Vec.{vec-items}
 use Rattle.std.specs.Options.{isSome}
 use Rattle.std.specs.declared.option.Option.{Option}
 use Rattle.std.specs.declared.option.Option.the-variants.{Some, None}
 use Rattle.std.proofs.shelf.Lists.{length-map}
 use Rattle.history.specs.Words as words
-use Rattle.history.specs.Contents.{Entry, is-free}
+use Rattle.history.specs.Contents.{Entry}
 use Rattle.vault.specs.Entries.{entry, lease, lease-in, is-of, first}
 use Rattle.vault.specs.Books.{entries}
 use Rattle.vault.proofs.Finding.{entry-read, found-here, not-here, nowhere}

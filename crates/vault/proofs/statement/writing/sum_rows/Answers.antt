@@ -5,7 +5,7 @@ use borrow.Author.Needs.{needs}
 use lib.ListN.{getD}
 use Rattle.vault.specs.declared.statement.Tally.{Tally}
 use Rattle.vault.specs.declared.statement.Row.{Row}
-use Rattle.vault.specs.Statements.{rowOf, joint, sums-to}
+use Rattle.vault.specs.Statements.{rowOf, joint}
 use Rattle.vault.proofs.Filling.{no-sums, sums-more}
 use Rattle.vault.proofs.statement.writing.sum_rows.Needs as need
 

@@ -1,7 +1,6 @@
-use mathlib.Core.Path.{ap, _∙_}
+use mathlib.Core.Path.{_∙_}
 use mathlib.Core.List.{_++_}
 use borrow.Author.Needs.{needs}
-use lib.ListN.{length}
 use Rattle.vault.proofs.Filling.{line-filled}
 use Rattle.vault.proofs.statement.writing.write_total_line.Needs as need
 
