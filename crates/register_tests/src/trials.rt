@@ -19,7 +19,7 @@ fn member(owner: u32, name: u32, member: u32) -> Result<Credential, Refusal> {
 }
 
 // An empty register gives these answers, and then has this list.
-pub fn behaves<R: Register>(heap: Global, register: &mut R) -> Result<(), Fail> {
+pub(crate) fn behaves<R: Register>(heap: Global, register: &mut R) -> Result<(), Fail> {
     let [a, b, c] = [member(1, 1, 4)?, member(1, 1, 5)?, member(2, 3, 6)?];
     let calls = [
         Call::Withdraw(1),
@@ -50,7 +50,7 @@ pub fn behaves<R: Register>(heap: Global, register: &mut R) -> Result<(), Fail> 
 }
 
 // An empty register takes as many as its capacity and no more; what stands is refused as standing even where it is full.
-pub fn fills<R: Register>(heap: Global, register: &mut R) -> Result<(), Fail> {
+pub(crate) fn fills<R: Register>(heap: Global, register: &mut R) -> Result<(), Fail> {
     let most = register.most();
     for number in 0..most as u32 {
         let credential = member(1, number / 32 + 1, number % 32 + 1)?;
