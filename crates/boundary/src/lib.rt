@@ -1,4 +1,6 @@
 // What a C or Rust program links: pages read, copied and evaluated, and certificates checked against pages.
+#![tactic(auto)]
+
 ghost use Rattle.std.specs.Prelude.{◌≡◌};
 ghost use Rattle.credential.specs.Refusals.{named};
 ghost use Rattle.model.specs.Tables.{table};

@@ -1,4 +1,6 @@
 // The worked cases, proved by computation.
+#![tactic(auto)]
+
 ghost use Rattle.std.specs.Prelude.{◌≡◌, length};
 ghost use Rattle.cases.specs.Cases.{cases, CasesHold};
 

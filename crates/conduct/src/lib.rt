@@ -1,4 +1,6 @@
 // Carrying out a list of calls on two vaults.
+#![tactic(auto)]
+
 pub mod outcomes;
 mod wallet;
 mod world;

@@ -3,8 +3,7 @@ ghost use Rattle.std.specs.Prelude.{◌≡◌, IfOk, Some, Ok, Decides};
 ghost use Rattle.credential.specs.Credentials.{letter_of, fields_of, entity_in, role_name_in, role_in, fitted, built_of, credential_of};
 ghost use Rattle.credential.specs.Letters.{marks_of};
 ghost use Rattle.credential.specs.Refusals.{answered};
-ghost use Rattle.std.specs.Cmp.Rules.{comparing};
-ghost use Rattle.std.proofs.Common.{rules};
+ghost use Rattle.credential.specs.Equality.{credential_eq, credential_eq_laws};
 
 use crate::letters::Letter;
 use crate::numbers::{Entity, RoleName};
@@ -208,11 +207,14 @@ fn build(letter: Letter, fields: [Option<u32>; 6]) -> Result<Credential, Refusal
 }
 
 impl PartialEq for Credential {
-    ghost equals = { λ x y r. Decides r (x ≡ y) };
+    ghost eq = { credential_eq };
 
-    ghost laws = { Prim.search (comparing, rules) };
+    ghost laws = { credential_eq_laws };
 
-    fn eq(&self, other: &Credential) -> bool {
+    fn eq(&self, other: &Credential) -> bool
+        ensures value { result ≡ credential_eq self.now other.now }
+        ensures decides { Decides result (self.now ≡ other.now) }
+    {
         match *self {
             Credential::Member { head, member } => match *other {
                 Credential::Member { head: h, member: m } => head == h && member == m,

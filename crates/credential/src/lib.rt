@@ -1,4 +1,6 @@
 // Entities, role names, roles, memberships, credentials, refusals, and sources of credentials.
+#![tactic(auto)]
+
 pub mod credentials;
 pub mod letters;
 pub mod memberships;

@@ -1,7 +1,6 @@
 // Roles.
 ghost use Rattle.std.specs.Prelude.{◌≡◌, Decides};
-ghost use Rattle.std.specs.Cmp.Rules.{comparing};
-ghost use Rattle.std.proofs.Common.{rules};
+ghost use Rattle.credential.specs.Equality.{role_eq, role_eq_laws};
 
 use crate::numbers::{Entity, RoleName};
 
@@ -13,11 +12,14 @@ pub struct Role {
 }
 
 impl PartialEq for Role {
-    ghost equals = { λ x y r. Decides r (x ≡ y) };
+    ghost eq = { role_eq };
 
-    ghost laws = { Prim.search (comparing, rules) };
+    ghost laws = { role_eq_laws };
 
-    fn eq(&self, other: &Role) -> bool {
+    fn eq(&self, other: &Role) -> bool
+        ensures value { result ≡ role_eq self.now other.now }
+        ensures decides { Decides result (self.now ≡ other.now) }
+    {
         self.owner == other.owner && self.name == other.name
     }
 }

@@ -1,4 +1,6 @@
 // The law over a vault's whole history, and what follows from it: specs/ says both.
+#![tactic(auto)]
+
 ghost use Rattle.history.specs.Contents.{MakingKeeps};
 ghost use Rattle.history.specs.Example.{Example};
 ghost use Rattle.history.specs.Promise.{PromiseMet, AgreementMet};

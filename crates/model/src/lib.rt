@@ -1,4 +1,6 @@
 // The well-founded model of a list of credentials: specs/ says what it is and what holds of it.
+#![tactic(auto)]
+
 pub mod entities;
 pub mod loading;
 

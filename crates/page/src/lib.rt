@@ -1,4 +1,6 @@
 // Access pages: numbers in columns, fields, lines, pages read in place, and sources written as pages.
+#![tactic(auto)]
+
 pub mod fields;
 pub mod lines;
 pub mod numerals;

@@ -1,4 +1,6 @@
 // Registers, into which credentials are published and from which they are withdrawn, and contexts of sources.
+#![tactic(auto)]
+
 pub mod contexts;
 pub mod page_text;
 pub mod record_list;

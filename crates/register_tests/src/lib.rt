@@ -1,4 +1,6 @@
 // One driver for every register: it carries out a list of calls and gives the answers and the list after them.
+#![tactic(auto)]
+
 ghost use Rattle.std.specs.Prelude.{◌≡◌, IfOk, MatchResult};
 ghost use Rattle.credential.specs.Refusals.{answered};
 ghost use Rattle.register_tests.specs.Calls.{called, number_answered, undriven, driven};

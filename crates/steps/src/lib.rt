@@ -1,4 +1,6 @@
 // What a list of calls on two vaults is made of: plain data, with no slip in it.
+#![tactic(auto)]
+
 use credential::{Credential, Membership};
 
 // A slip by the numbers that it carries.

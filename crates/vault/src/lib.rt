@@ -1,4 +1,6 @@
 // Vaults: they own a register, let a certificate stand, and lend and count leases.
+#![tactic(auto)]
+
 mod book;
 pub mod kinds;
 mod ledger;

@@ -1,4 +1,6 @@
 // Carries out a table of cases from standard input, a line each: reading a page, evaluating one, checking a certificate of one. Pages are in hexadecimal.
+#![tactic(auto)]
+
 use anyhow::anyhow;
 use checking::print_checked;
 use evaluating::print_evaluated;

@@ -1,4 +1,6 @@
 // The program: arguments and printing.
+#![tactic(auto)]
+
 use anyhow::anyhow;
 use arguments::{Command, file_of, read_command};
 use std::env;

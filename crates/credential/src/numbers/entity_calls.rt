@@ -1,10 +1,8 @@
 // Making an entity, and what can be asked of it.
 ghost use Rattle.std.specs.Prelude.{◌≡◌, ◌≤◌, Decides, nat_eq};
-ghost use Rattle.std.specs.Ordering.{on, flip_args};
 ghost use Rattle.credential.specs.Numbers.{entity_of};
 ghost use Rattle.credential.specs.Refusals.{answered};
-ghost use Rattle.std.specs.Cmp.Rules.{comparing};
-ghost use Rattle.std.proofs.Common.{rules, arith};
+ghost use Rattle.credential.specs.Equality.{entity_eq, entity_eq_laws};
 
 use crate::numbers::Entity;
 use crate::refusals::Refusal;
@@ -35,11 +33,14 @@ impl Entity {
 }
 
 impl PartialEq for Entity {
-    ghost eq = { flip_args (on (λ v. v.number) nat_eq) };
+    ghost eq = { entity_eq };
 
-    ghost laws = { first_of (Prim.search (comparing, rules), Prim.grind (arith, Self.row.coded.inj)) };
+    ghost laws = { entity_eq_laws };
 
-    fn eq(&self, other: &Entity) -> bool {
+    fn eq(&self, other: &Entity) -> bool
+        ensures value { result ≡ entity_eq self.now other.now }
+        ensures decides { Decides result (self.now ≡ other.now) }
+    {
         other.number == self.number
     }
 }

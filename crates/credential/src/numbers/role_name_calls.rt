@@ -1,10 +1,8 @@
 // Making a role name, and what can be asked of it.
 ghost use Rattle.std.specs.Prelude.{◌≡◌, ◌≤◌, Decides, nat_eq};
-ghost use Rattle.std.specs.Ordering.{on, flip_args};
 ghost use Rattle.credential.specs.Numbers.{role_name_of};
 ghost use Rattle.credential.specs.Refusals.{answered};
-ghost use Rattle.std.specs.Cmp.Rules.{comparing};
-ghost use Rattle.std.proofs.Common.{rules, arith};
+ghost use Rattle.credential.specs.Equality.{role_name_eq, role_name_eq_laws};
 
 use crate::numbers::RoleName;
 use crate::refusals::Refusal;
@@ -35,11 +33,14 @@ impl RoleName {
 }
 
 impl PartialEq for RoleName {
-    ghost eq = { flip_args (on (λ v. v.number) nat_eq) };
+    ghost eq = { role_name_eq };
 
-    ghost laws = { first_of (Prim.search (comparing, rules), Prim.grind (arith, Self.row.coded.inj)) };
+    ghost laws = { role_name_eq_laws };
 
-    fn eq(&self, other: &RoleName) -> bool {
+    fn eq(&self, other: &RoleName) -> bool
+        ensures value { result ≡ role_name_eq self.now other.now }
+        ensures decides { Decides result (self.now ≡ other.now) }
+    {
         other.number == self.number
     }
 }
