@@ -1,5 +1,5 @@
 -- A credential and its letter with its fields determine each other.
-use Rattle.std.proofs.Common.{◌≡◌, ℕ, ◌≤◌, Bool, true, false, leb, List, [], ◌∷◌, length, get_or, IfOk, Some, None, Ok, Err, Option, Result, sym, refl, ap, ◌∙◌, subst, arith}
+use Rattle.std.proofs.Common.{◌≡◌, ℕ, ◌≤◌, leb, List, [], ◌∷◌, length, get_or, IfOk, Some, None, Ok, Err, Option, Result, sym, refl, ap, ◌∙◌, arith}
 use Rattle.std.proofs.lemmas.Bool.{le-leb, cond-true}
 use Rattle.std.proofs.lemmas.Bool.Decides.{nat_tests}
 use Rattle.credential.specs.declared.numbers.Entity.{Entity}
@@ -15,7 +15,7 @@ use Rattle.credential.specs.declared.credentials.Credential.TheVariants.{Member,
 use Rattle.credential.specs.declared.refusals.Refusal.{Refusal}
 use Rattle.credential.specs.Refusals.{Named, answered, on_ok}
 use Rattle.credential.specs.Letters.{marks_of, ranged, tested}
-use Rattle.credential.specs.Credentials.{letter_of, fields_of, entity_in, role_name_in, role_in, without_place, fitted, built_by, built_of, credential_of}
+use Rattle.credential.specs.Credentials.{letter_of, fields_of, role_name_in, role_in, without_place, fitted, built_by, built_of, credential_of}
 use Rattle.credential.proofs.Ranges.{entity_of-is, role_name_of-is}
 
 -- what went on to an answer was answered

@@ -1,5 +1,4 @@
 pub mod Ranges
 pub mod Fields
 pub mod Building
-pub mod Equalities
 pub mod Placing

@@ -1,5 +1,5 @@
 -- Entities and role names are equal where their numbers are, and are made of their numbers.
-use Rattle.std.proofs.Common.{◌≡◌, ℕ, ◌≤◌, Bool, true, false, leb, Ok, Err, refl, ap, arith, leb-false}
+use Rattle.std.proofs.Common.{◌≡◌, ℕ, ◌≤◌, Bool, true, false, leb, Ok, refl, ap, arith, leb-false}
 use mathlib.Core.HLevel.{is_prop→PathP}
 use native.Mathlib.Bridge.{le_prop}
 use Rattle.credential.specs.declared.numbers.Entity.{Entity}

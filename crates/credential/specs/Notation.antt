@@ -1,5 +1,5 @@
 -- The plain notation of roles, credentials and refusals.
-use Rattle.std.specs.Prelude.{ℕ, List, [], ◌∷◌, ◌++◌, codes, decimal}
+use Rattle.std.specs.Prelude.{ℕ, List, ◌++◌, codes, decimal}
 use Rattle.credential.specs.declared.refusals.Refusal.{Refusal}
 use Rattle.credential.specs.declared.roles.Role.{Role}
 use Rattle.credential.specs.declared.credentials.Credential.{Credential}

@@ -1,4 +1,4 @@
-use Rattle.std.proofs.Common.{◌≡◌, ◌<◌, List, length, Err, sym, ap, ◌∙◌, arith, rules}
+use Rattle.std.proofs.Common.{◌≡◌, List, length, Err, sym, ap, ◌∙◌, arith, rules}
 use Rattle.credential.specs.declared.letters.Mark.{Mark}
 use Rattle.credential.specs.Refusals.{Named}
 use Rattle.credential.specs.Credentials.{fitted}
@@ -15,7 +15,7 @@ returns-in-Err c =
 pub loop-k-preserved : goal.loop-k-preserved
 loop-k-preserved c =
     let six : length c.marks-marks.result.now ≡ 6 = ap length c.marks-marks.ensures ∙ six_marks c.args.letter in
-    fitted_more c.marks-marks.result.now c.args.fields c.loop-k.k (omega arith) (search rules) (sym c.in-default.ensures) c.loop-k.invariant
+    fitted_more c.marks-marks.result.now c.args.fields c.loop-k.k (omega arith) (search rules) (sym c.in_default.ensures) c.loop-k.invariant
 
 pub returns : goal.returns
 returns c =

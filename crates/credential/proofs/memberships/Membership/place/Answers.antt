@@ -1,5 +1,4 @@
-use Rattle.std.proofs.Common.{◌≡◌, ℕ, ap, ◌∙◌, rules}
-use Rattle.credential.specs.Memberships.{place, membership_at}
+use Rattle.std.proofs.Common.{rules}
 use Rattle.credential.proofs.Placing.{at_place}
 use Rattle.credential.proofs.memberships.Membership.place.Goals as goal
 
