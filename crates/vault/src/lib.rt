@@ -1,9 +1,6 @@
-// Vaults: they own a register, let a certificate stand, and lend and count leases.
+// What lies beneath the vaults: slips, the book of leases, and the statement's writer.
 #![tactic(auto)]
 
 mod book;
-pub mod kinds;
-mod ledger;
 pub mod slips;
 pub mod statement;
-pub mod vaults;
