@@ -1,5 +1,5 @@
 -- A page line by line: its test, its credentials by place, and the buffer that it is written into.
-use Rattle.std.proofs.Common.{◌≡◌, ℕ, zero, suc, ◌+◌, ◌-◌, ◌*◌, ◌/◌, ◌<◌, ◌≤◌, min, Bool, true, false, cond, eqb, ltb, ◌⊎◌, List, [], ◌∷◌, ◌++◌, length, take, drop, is_ok, IfOk, Some, None, Ok, Err, Option, Result, sym, refl, ap, ◌∙◌, subst, inl, inr, ⊎_elim, append_assoc, le_of_suc-le-suc, not-suc-le-zero, add-one, arith, length-drop}
+use Rattle.std.proofs.Common.{◌≡◌, ℕ, zero, suc, ◌+◌, ◌-◌, ◌*◌, ◌/◌, ◌<◌, ◌≤◌, min, Bool, true, false, cond, eqb, ltb, List, [], ◌∷◌, ◌++◌, length, take, drop, is_ok, IfOk, Some, None, Ok, Err, Result, sym, refl, ap, ◌∙◌, subst, ⊎_elim, append_assoc, le_of_suc-le-suc, not-suc-le-zero, add-one, arith, length-drop}
 use borrow.Rule.Slice.PartMut.{put_mid}
 use Rattle.std.proofs.lemmas.List.{take_all, take_at, append-nil, length-take-le}
 use Rattle.std.proofs.lemmas.Option.{slice_get_past}
@@ -14,7 +14,6 @@ use Rattle.page.specs.Lines.{collected, read_line, line_of}
 use Rattle.page.specs.Pages.{line_at, read_page, whether, list_of, credentials_of, page_of, write_answer, write_after}
 use Rattle.page.proofs.Collecting.{collect_at}
 use Rattle.page.proofs.Columns.{put_behind}
-use Rattle.page.proofs.Writing.{line_length}
 use Rattle.page.proofs.RoundTrip.{never, page_lines, page_back, page-length, page_forth}
 
 -- the bytes of a line, or of what is left

@@ -1,8 +1,8 @@
 -- What is read is written back, and what is written is read back: fields, lines and pages.
-use Rattle.std.proofs.Common.{◌≡◌, ℕ, zero, suc, ◌+◌, ◌-◌, ◌*◌, ◌/◌, ◌^◌, ◌<◌, ◌≤◌, Bool, true, false, cond, eqb, ltb, ◌⊎◌, List, [], ◌∷◌, ◌++◌, length, get_or, take, drop, Some, None, Ok, Err, Option, Result, sym, refl, ap, ◌∙◌, subst, inl, inr, append_assoc, arith, length-append, length-drop, take-add}
+use Rattle.std.proofs.Common.{◌≡◌, ℕ, zero, suc, ◌+◌, ◌*◌, ◌/◌, ◌<◌, ◌≤◌, Bool, true, false, cond, eqb, ltb, ◌⊎◌, List, [], ◌∷◌, ◌++◌, length, get_or, take, drop, Some, None, Ok, Err, Option, Result, sym, refl, ap, ◌∙◌, subst, inl, inr, append_assoc, arith, length-append, length-drop, take-add}
 use Rattle.std.proofs.lemmas.Bool.Decides.{nat_tests}
 use Rattle.std.proofs.lemmas.Bool.{eqb-true, le-ltb, ltb-false as ltb-le, cond-true, cond-false, eq-eqb}
-use Rattle.std.proofs.lemmas.List.{take-append-drop, drop-drop, drop_more, drop_all, take_at, drop_at, get_or_at, nil_from_length, length-take-le}
+use Rattle.std.proofs.lemmas.List.{take-append-drop, drop-drop, drop_more, drop_all, take_at, drop_at, get_or_at, length-take-le}
 use Rattle.credential.specs.declared.credentials.Credential.{Credential}
 use Rattle.credential.specs.declared.letters.Letter.{Letter}
 use Rattle.credential.specs.declared.letters.Letter.TheVariants.{Member, Inclusion, Linked, Intersection, Exclusion}
@@ -15,7 +15,7 @@ use Rattle.credential.specs.Credentials.{letter_of, fields_of, fitted, credentia
 use Rattle.credential.proofs.Fields.{six_marks}
 use Rattle.credential.proofs.Building.{on_ok_lem, fitted_both, fitted_parts, fields_fit, six_fields_of, made_of_fields, fields_of_made, range_of}
 use Rattle.page.specs.Numerals.{numeral, lead, number_in}
-use Rattle.page.specs.Fields.{Seen, number, nothing, blank, marked, field_at, if_fits, read_at, value_of, field_text}
+use Rattle.page.specs.Fields.{Seen, number, nothing, blank, marked, if_fits, read_at, value_of, field_text}
 use Rattle.page.specs.Lines.{collected, read_letter, letter_byte, read_field, read_fields, read_line, fields_text, line_of}
 use Rattle.page.specs.Pages.{line_at, read_page, page_of}
 use Rattle.page.proofs.NumberTrip.{number_back, number_forth}

@@ -9,8 +9,8 @@ pub returns : goal.returns
 returns c =
     let letter = c.letter-letter.ensures in
     let fields = c.fields.ensures.value in
-    let byte : c.letter-byte.result ≡ letter_byte (letter_of c.args.credential) = c.letter-byte.ensures ∙ ap letter_byte letter in
+    let byte : c.letter_byte.result ≡ letter_byte (letter_of c.args.credential) = c.letter_byte.ensures ∙ ap letter_byte letter in
     let text : fields_text (marks_of c.letter-letter.result) c.fields.result ≡ fields_text (marks_of (letter_of c.args.credential)) (fields_of c.args.credential) = cc in
-    line_whole c.letter-byte.result _ c.args.line.now c.write-fields.new.line (search rules) (ap (λ (t : List ℕ). length t) text ∙ line_text c.args.credential) c.write-fields.ensures
+    line_whole c.letter_byte.result _ c.args.line.now c.write_fields.new.line (search rules) (ap (λ (t : List ℕ). length t) text ∙ line_text c.args.credential) c.write_fields.ensures
     ∙ ap (λ (b : ℕ). b ∷ (fields_text (marks_of c.letter-letter.result) c.fields.result ++ 10 ∷ [])) byte
     ∙ ap (λ (t : List ℕ). letter_byte (letter_of c.args.credential) ∷ (t ++ 10 ∷ [])) text

@@ -1,4 +1,4 @@
-use Rattle.std.proofs.Common.{◌≡◌, ◌≤◌, List, ◌++◌, length, take, drop, ap, ◌∙◌, arith, rules}
+use Rattle.std.proofs.Common.{List, ◌++◌, length, take, drop, ap, ◌∙◌, arith, rules}
 use Rattle.credential.specs.declared.letters.Mark.{Mark}
 use Rattle.credential.proofs.Fields.{six_marks}
 use Rattle.page.specs.Lines.{fields_text}
@@ -10,8 +10,8 @@ loop-k-init c = fields_none c.marks-marks.result.now c.args.fields c.args.line.n
 
 pub loop-k-preserved : goal.loop-k-preserved
 loop-k-preserved c =
-    fields_more c.loop-k.k c.marks-marks.result.now c.args.fields (take 1 c.args.line.now) c.args.line.now c.loop-k.line c.write-field.new.columns
-    (ap length c.marks-marks.ensures ∙ six_marks c.args.letter) (search rules) (search rules) c.loop-k-test.true c.write-field.ensures c.loop-k.invariant
+    fields_more c.loop-k.k c.marks-marks.result.now c.args.fields (take 1 c.args.line.now) c.args.line.now c.loop-k.line c.write_field.new.columns
+    (ap length c.marks-marks.ensures ∙ six_marks c.args.letter) (search rules) (search rules) c.loop-k-test.true c.write_field.ensures c.loop-k.invariant
 
 pub returns : goal.returns
 returns c =

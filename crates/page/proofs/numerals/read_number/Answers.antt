@@ -5,6 +5,6 @@ use Rattle.page.proofs.numerals.read_number.Goals as goal
 
 pub returns : goal.returns
 returns c = record {
-  value = c.number-in.ensures;
-  numeral = subst (λ (o : Option ℕ). Numbered c.args.columns.now o) (sym c.number-in.ensures) (numbered c.args.columns.now);
+  value = c.number_in.ensures;
+  numeral = subst (λ (o : Option ℕ). Numbered c.args.columns.now o) (sym c.number_in.ensures) (numbered c.args.columns.now);
 }

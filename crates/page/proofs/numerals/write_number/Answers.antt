@@ -1,11 +1,11 @@
-use Rattle.std.proofs.Common.{◌≡◌, ℕ, sym, refl, ap, ◌∙◌, arith, length-set, rules}
+use Rattle.std.proofs.Common.{ℕ, ap, ◌∙◌, arith, rules}
 use Rattle.page.specs.Numerals.{numeral}
 use Rattle.page.proofs.Digits.{no_columns, numeral-last, lead_more, lead-all}
 use Rattle.page.proofs.numerals.write_number.Goals as goal
 use Rattle.page.proofs.numerals.write_number.Goals.{then-rest-eq0, else-rest-eq0}
 
 pub loop-i-init : goal.loop-i-init
-loop-i-init c = numeral-last c.args.columns.now c.args.number c.last-digit.result c.last-digit.ensures (omega arith)
+loop-i-init c = numeral-last c.args.columns.now c.args.number c.last_digit.result c.last_digit.ensures (omega arith)
 
 pub returns-then-width-eq0 : goal.returns-then-width-eq0
 returns-then-width-eq0 c = no_columns c.args.columns.now c.args.number c.if-width-eq0.true

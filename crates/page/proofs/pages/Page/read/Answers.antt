@@ -1,9 +1,9 @@
 use Rattle.std.proofs.Common.{◌≡◌, ℕ, ◌∙◌, arith}
-use Rattle.page.proofs.Paging.{test_passed, test_refused, empty_lawful, empty_credentials}
+use Rattle.page.proofs.Paging.{test_refused, empty_lawful, empty_credentials}
 use Rattle.page.proofs.pages.Page.read.Goals as goal
 
-pub invariant-of-result-in-Err : goal.invariant-of-result-in-Err
-invariant-of-result-in-Err c = (empty_lawful, tt)
+pub invariant_of-result-in-Err : goal.invariant_of-result-in-Err
+invariant_of-result-in-Err c = record { lawful = empty_lawful }
 
 pub returns-in-Err : goal.returns-in-Err
 returns-in-Err c =

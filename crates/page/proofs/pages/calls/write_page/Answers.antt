@@ -1,9 +1,9 @@
-use Rattle.std.proofs.Common.{◌≡◌, ℕ, ◌+◌, ◌*◌, ◌<◌, ◌≤◌, true, false, ltb, List, ◌++◌, length, take, drop, Ok, sym, refl, ap, ◌∙◌, subst, arith, rules}
+use Rattle.std.proofs.Common.{◌≡◌, ℕ, ◌*◌, ◌<◌, ◌≤◌, List, ◌++◌, length, take, drop, Ok, sym, ap, ◌∙◌, arith, rules}
 use Rattle.std.proofs.lemmas.Bool.{cond-false}
 use Rattle.page.specs.Pages.{page_of, read_page}
 use Rattle.page.proofs.Paging.{page-none, page_more_at, page-all, never_absent, long_enough, written_read}
 use Rattle.page.proofs.pages.calls.write_page.Goals as goal
-use Rattle.page.proofs.pages.calls.write_page.Goals.{in-Some, in-default}
+use Rattle.page.proofs.pages.calls.write_page.Goals.{in-Some, in_default}
 
 pub loop-i-init : goal.loop-i-init
 loop-i-init g c = page-none (g.S.Source.list c.args.source.now) c.args.out.now
@@ -13,9 +13,9 @@ loop-i-preserved g c =
     let h : c.loop-i.i < length (g.S.Source.list c.args.source.now) = search rules in
     elim c.match-at.branch [
       | in-Some w ↦
-          w.out-is ∙ page_more_at (g.S.Source.list c.args.source.now) c.args.out.now c.loop-i.out c.loop-i.i c.loop-i.invariant w.line-start-at.result w.line-start-at.ensures w.in-Some.credential w.fill-line.new.line
-          h (sym w.in-Some.ensures) w.fill-line.ensures
-      | in-default w ↦ never_absent (g.S.Source.list c.args.source.now) c.loop-i.i h (sym w.in-default.ensures)
+          w.out-is ∙ page_more_at (g.S.Source.list c.args.source.now) c.args.out.now c.loop-i.out c.loop-i.i c.loop-i.invariant w.line_start-at.result w.line_start-at.ensures w.in-Some.credential w.fill_line.new.line
+          h (sym w.in-Some.ensures) w.fill_line.ensures
+      | in_default w ↦ never_absent (g.S.Source.list c.args.source.now) c.loop-i.i h (sym w.in_default.ensures)
     ]
 
 pub returns : goal.returns
