@@ -1,4 +1,4 @@
-use Rattle.std.proofs.Common.{◌-◌, ◌∙◌, subst}
+use Rattle.std.proofs.Common.{◌∙◌, subst}
 use Rattle.credential.specs.Refusals.{answered}
 use Rattle.model.specs.Tables.{table}
 use Rattle.model.proofs.Laws.{laws_of_certificates}
@@ -10,8 +10,8 @@ pub returns : goal.returns
 returns g c =
     let list = g.S.Source.list c.args.source.now in
     let t = table c.args.verdicts.now c.args.numbers.now in
-    let r = answered c.check-list.result in
-    let says : Checked list t r = subst (λ xs. Checked xs t r) (c.list.ensures.value ∙ c.load-credentials.ensures) c.check-list.ensures in
+    let r = answered c.check_list.result in
+    let says : Checked list t r = subst (λ xs. Checked xs t r) (c.list.ensures.value ∙ c.load-credentials.ensures) c.check_list.ensures in
     record {
       says = says;
       alone = one_answer;

@@ -10,5 +10,5 @@ returns-in-Some c =
 
 pub returns : goal.returns
 returns c =
-    walked c.args.credentials.now c.args.verdicts.now c.args.numbers.now (omega arith, omega arith) c.in-default.ensures
-    (answered c.check-entries.result) c.check-entries.ensures
+    walked c.args.credentials.now c.args.verdicts.now c.args.numbers.now (omega arith, omega arith) c.in_default.ensures
+    (answered c.check_entries.result) c.check_entries.ensures

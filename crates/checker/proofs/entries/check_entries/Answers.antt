@@ -13,10 +13,10 @@ returns-in-Err c =
 pub loop-index-preserved : goal.loop-index-preserved
 loop-index-preserved c =
     walk_more (entry_refusal c.args.credentials.now c.args.verdicts.now c.args.numbers.now) c.in-Some.m c.loop-index.index
-    c.in-Some.ensures.back (sym c.in-default-check-entry.ensures) c.loop-index.invariant
+    c.in-Some.ensures.back (sym c.in_default-check_entry.ensures) c.loop-index.invariant
 
-pub returns-in-default : goal.returns-in-default
-returns-in-default c = let past : 16384 ≤ c.loop-index.index = c.in-default.ensures.back in absurd (omega arith)
+pub returns-in_default : goal.returns-in_default
+returns-in_default c = let past : 16384 ≤ c.loop-index.index = c.in_default.ensures.back in absurd (omega arith)
 
 pub returns : goal.returns
 returns c k = let below : place k < 16384 = place-below k in c.loop-index.invariant k (omega arith)
