@@ -1,9 +1,9 @@
 // The program: arguments and printing.
 #![tactic(auto)]
 
-use anyhow::anyhow;
 use arguments::{Command, file_of, read_command};
 use std::env;
+use std::process::ExitCode;
 
 mod arguments;
 mod clauses;
@@ -23,13 +23,13 @@ pub enum Outcome {
     Failed,
 }
 
-fn main(rt: HostRuntime) -> anyhow::Result<()> {
+fn main(rt: HostRuntime) -> ExitCode {
     match run(&rt) {
-        Ok(Outcome::Done) => Ok(()),
-        Ok(Outcome::Failed) => Err(anyhow!("failed")),
+        Ok(Outcome::Done) => ExitCode::SUCCESS,
+        Ok(Outcome::Failed) => ExitCode::FAILURE,
         Err(e) => {
-            eprintln!(rt; "walumiren: {e}")?;
-            Err(e)
+            let _ = eprintln!(rt; "walumiren: {e}");
+            ExitCode::FAILURE
         }
     }
 }
