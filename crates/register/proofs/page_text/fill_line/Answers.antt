@@ -10,4 +10,4 @@ returns c =
     let d = length-drop at c.args.text.now in
     let k : at + 20 - at ≡ 20 = omega arith in
     part_put at (at + 20 - at) (at + 20) c.args.text.now _ (line_of c.args.credential) (omega arith)
-    (c.write-line.ensures.after ∙ line_written c.args.credential _ (length-take-le (at + 20 - at) (drop at c.args.text.now) (omega arith) ∙ k))
+    (c.write_line.ensures.after ∙ line_written c.args.credential _ (length-take-le (at + 20 - at) (drop at c.args.text.now) (omega arith) ∙ k))

@@ -4,7 +4,7 @@ use Rattle.register.specs.Tallies.{Outcomes, total, published_all}
 use Rattle.register.proofs.Places.{placed-none}
 use Rattle.register.proofs.Walks.{published_here, published_past}
 use Rattle.register.proofs.tallies.publish_all.Goals as goal
-use Rattle.register.proofs.tallies.publish_all.Goals.{in-Some, in-default}
+use Rattle.register.proofs.tallies.publish_all.Goals.{in-Some, in_default}
 
 pub loop-index-preserved : goal.loop-index-preserved
 loop-index-preserved g c =
@@ -18,7 +18,7 @@ loop-index-preserved g c =
             (sym w.count-tally.ensures.value ∙ sym w.tally-is),
         omega (arith, ap total w.tally-is, w.count-tally.ensures.total),
       )
-      | in-default w ↦ absurd (omega (arith, placed-none xs c.loop-index.index (sym w.in-default.ensures)))
+      | in_default w ↦ absurd (omega (arith, placed-none xs c.loop-index.index (sym w.in_default.ensures)))
     ]
 
 pub returns : goal.returns

@@ -3,9 +3,9 @@ use Rattle.page.specs.Pages.{read_page, credentials_of}
 use Rattle.page.proofs.Paging.{empty_lawful, empty_credentials}
 use Rattle.register.proofs.page_text.PageText.new.Goals as goal
 
-pub invariant-of-result : goal.invariant-of-result
-invariant-of-result c =
-    (ap (λ (bs : List ℕ). is_ok (read_page bs)) c.in-ok-text.ensures.items ∙ empty_lawful, (search rules, (search rules, tt)))
+pub invariant_of-result : goal.invariant_of-result
+invariant_of-result c =
+    record { lawful = ap (λ (bs : List ℕ). is_ok (read_page bs)) c.in_ok-text.ensures.items ∙ empty_lawful; within = search rules; room = search rules }
 
 pub returns : goal.returns
-returns c = ap credentials_of c.in-ok-text.ensures.items ∙ empty_credentials
+returns c = ap credentials_of c.in_ok-text.ensures.items ∙ empty_credentials

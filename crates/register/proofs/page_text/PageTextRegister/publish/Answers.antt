@@ -8,40 +8,40 @@ use Rattle.register.proofs.Outcomes.{published-is, admitted_room}
 use Rattle.register.proofs.Texts.{text_length, text_more}
 use Rattle.register.proofs.page_text.PageTextRegister.publish.Goals as goal
 
-pub returns-in-err-admit : goal.returns-in-err-admit
-returns-in-err-admit c =
-    let o = sym (published-is 128 (credentials_of (vec_items c.args.self.now.text)) c.args.credential c.stands.result c.is-full.result
-    c.in-err-admit.ensures c.stands.ensures.value c.is-full.ensures) in
+pub returns-in_err-admit : goal.returns-in_err-admit
+returns-in_err-admit c =
+    let o = sym (published-is 128 (credentials_of (vec_items c.args.self.now.text)) c.args.credential c.stands.result c.is_full.result
+    c.in_err-admit.ensures c.stands.ensures.value c.is_full.ensures) in
     let n = text_length (vec_items c.args.self.now.text) c.args.self.now.lawful in
-    let p = err_from_is_err_and c.from-residual.result c.from-residual.ensures.1 in
+    let p = err_from_is_err_and c.from_residual.result c.from_residual.ensures.1 in
     record {
       answer = ap answered p.1 ∙ ap (λ (e : Refusal). Err (named e)) p.2 ∙ ap (λ (o : Outcome). o.answer) o;
       list = ap (λ (o : Outcome). o.list) o;
       within = omega (arith, c.args.self.now.text.ok.0);
     }
 
-pub put-line-requires : goal.put-line-requires
-put-line-requires c =
+pub put_line-requires : goal.put_line-requires
+put_line-requires c =
     let n = text_length (vec_items c.args.self.now.text) c.args.self.now.lawful in
-    let room = admitted_room c.stands.result c.is-full.result (length (credentials_of (vec_items c.args.self.now.text))) 128 c.in-ok-admit.ensures c.is-full.ensures in
+    let room = admitted_room c.stands.result c.is_full.result (length (credentials_of (vec_items c.args.self.now.text))) 128 c.in_ok-admit.ensures c.is_full.ensures in
     omega (arith, c.args.self.now.text.ok.0)
 
-pub invariant-of-self : goal.invariant-of-self
-invariant-of-self c =
+pub invariant_of-self : goal.invariant_of-self
+invariant_of-self c =
     let n = text_length (vec_items c.args.self.now.text) c.args.self.now.lawful in
-    let room = admitted_room c.stands.result c.is-full.result (length (credentials_of (vec_items c.args.self.now.text))) 128 c.in-ok-admit.ensures c.is-full.ensures in
-    let r = text_more _ c.args.self.now.lawful _ c.args.credential (omega (arith, c.args.self.now.text.ok.0)) c.put-line.ensures.items in
-    (r.0, (omega (arith, c.args.self.now.text.ok.0), (omega arith, tt)))
+    let room = admitted_room c.stands.result c.is_full.result (length (credentials_of (vec_items c.args.self.now.text))) 128 c.in_ok-admit.ensures c.is_full.ensures in
+    let r = text_more _ c.args.self.now.lawful _ c.args.credential (omega (arith, c.args.self.now.text.ok.0)) c.put_line.ensures.items in
+    record { lawful = r.0; within = omega (arith, c.args.self.now.text.ok.0); room = omega arith }
 
 pub returns : goal.returns
 returns c =
     let n = text_length (vec_items c.args.self.now.text) c.args.self.now.lawful in
-    let room = admitted_room c.stands.result c.is-full.result (length (credentials_of (vec_items c.args.self.now.text))) 128 c.in-ok-admit.ensures c.is-full.ensures in
-    let r = text_more _ c.args.self.now.lawful _ c.args.credential (omega (arith, c.args.self.now.text.ok.0)) c.put-line.ensures.items in
-    let o = sym (published-is 128 (credentials_of (vec_items c.args.self.now.text)) c.args.credential c.stands.result c.is-full.result
-    c.in-ok-admit.ensures c.stands.ensures.value c.is-full.ensures) in
+    let room = admitted_room c.stands.result c.is_full.result (length (credentials_of (vec_items c.args.self.now.text))) 128 c.in_ok-admit.ensures c.is_full.ensures in
+    let r = text_more _ c.args.self.now.lawful _ c.args.credential (omega (arith, c.args.self.now.text.ok.0)) c.put_line.ensures.items in
+    let o = sym (published-is 128 (credentials_of (vec_items c.args.self.now.text)) c.args.credential c.stands.result c.is_full.result
+    c.in_ok-admit.ensures c.stands.ensures.value c.is_full.ensures) in
     record {
       answer = ap (λ (o : Outcome). o.answer) o;
       list = r.1 ∙ ap (λ (o : Outcome). o.list) o;
-      within = omega (arith, text_length _ r.0, c.args.self.now.text.ok.0, c.put-line.new.text.ok.0);
+      within = omega (arith, text_length _ r.0, c.args.self.now.text.ok.0, c.put_line.new.text.ok.0);
     }

@@ -8,40 +8,40 @@ use Rattle.register.proofs.Outcomes.{withdrawn-is, located-within}
 use Rattle.register.proofs.Texts.{text_length, text_less}
 use Rattle.register.proofs.page_text.PageTextRegister.withdraw.Goals as goal
 
-pub returns-in-err-locate : goal.returns-in-err-locate
-returns-in-err-locate c =
+pub returns-in_err-locate : goal.returns-in_err-locate
+returns-in_err-locate c =
     let o = sym (withdrawn-is (credentials_of (vec_items c.args.self.now.text)) c.args.place c.count.result
-    c.in-err-locate.ensures c.count.ensures.value) in
+    c.in_err-locate.ensures c.count.ensures.value) in
     let n = text_length (vec_items c.args.self.now.text) c.args.self.now.lawful in
-    let p = err_from_is_err_and c.from-residual.result c.from-residual.ensures.1 in
+    let p = err_from_is_err_and c.from_residual.result c.from_residual.ensures.1 in
     record {
       answer = ap answered p.1 ∙ ap (λ (e : Refusal). Err (named e)) p.2 ∙ ap (λ (o : Outcome). o.answer) o;
       list = ap (λ (o : Outcome). o.list) o;
       within = omega (arith, c.args.self.now.text.ok.0);
     }
 
-pub take-line-requires : goal.take-line-requires
-take-line-requires c =
+pub take_line-requires : goal.take_line-requires
+take_line-requires c =
     let n = text_length (vec_items c.args.self.now.text) c.args.self.now.lawful in
-    let w = located-within c.args.place c.count.result c.in-ok-locate.ensures in
+    let w = located-within c.args.place c.count.result c.in_ok-locate.ensures in
     omega (arith, c.args.self.now.text.ok.0)
 
-pub invariant-of-self : goal.invariant-of-self
-invariant-of-self c =
+pub invariant_of-self : goal.invariant_of-self
+invariant_of-self c =
     let n = text_length (vec_items c.args.self.now.text) c.args.self.now.lawful in
-    let w = located-within c.args.place c.count.result c.in-ok-locate.ensures in
-    let r = text_less _ c.args.self.now.lawful _ c.args.place w.0 (omega arith) (omega arith) c.take-line.ensures.items in
-    (r.0, (omega arith, (omega arith, tt)))
+    let w = located-within c.args.place c.count.result c.in_ok-locate.ensures in
+    let r = text_less _ c.args.self.now.lawful _ c.args.place w.0 (omega arith) (omega arith) c.take_line.ensures.items in
+    record { lawful = r.0; within = omega arith; room = omega arith }
 
 pub returns : goal.returns
 returns c =
     let n = text_length (vec_items c.args.self.now.text) c.args.self.now.lawful in
-    let w = located-within c.args.place c.count.result c.in-ok-locate.ensures in
-    let r = text_less _ c.args.self.now.lawful _ c.args.place w.0 (omega arith) (omega arith) c.take-line.ensures.items in
+    let w = located-within c.args.place c.count.result c.in_ok-locate.ensures in
+    let r = text_less _ c.args.self.now.lawful _ c.args.place w.0 (omega arith) (omega arith) c.take_line.ensures.items in
     let o = sym (withdrawn-is (credentials_of (vec_items c.args.self.now.text)) c.args.place c.count.result
-    c.in-ok-locate.ensures c.count.ensures.value) in
+    c.in_ok-locate.ensures c.count.ensures.value) in
     record {
       answer = ap (λ (o : Outcome). o.answer) o;
       list = r.1 ∙ ap (λ (o : Outcome). o.list) o;
-      within = omega (arith, text_length _ r.0, c.args.self.now.text.ok.0, c.take-line.new.text.ok.0);
+      within = omega (arith, text_length _ r.0, c.args.self.now.text.ok.0, c.take_line.new.text.ok.0);
     }

@@ -22,8 +22,8 @@ returns c =
     let p = line_there bs c.args.self.now.lawful c.args.place (omega arith) (omega (arith, c.args.self.now.text.ok.0)) in
     let k : 20 * (c.args.place - 1) + 20 - 20 * (c.args.place - 1) ≡ 20 = omega arith in
     c.ok.ensures.value
-    ∙ as_option c.read-line.result p.0
-    (c.read-line.ensures
-    ∙ ap (λ (t : List ℕ). read_line (take (20 * (c.args.place - 1) + 20 - 20 * (c.args.place - 1)) (drop (20 * (c.args.place - 1)) t)) c.args.place) c.as-slice.ensures.value
+    ∙ as_option c.read_line.result p.0
+    (c.read_line.ensures
+    ∙ ap (λ (t : List ℕ). read_line (take (20 * (c.args.place - 1) + 20 - 20 * (c.args.place - 1)) (drop (20 * (c.args.place - 1)) t)) c.args.place) c.as_slice.ensures.value
     ∙ ap (λ (j : ℕ). read_line (take j (drop (20 * (c.args.place - 1)) bs)) c.args.place) k ∙ p.1)
     ∙ sym p.2

@@ -6,28 +6,28 @@ use Rattle.register.specs.Registers.{Outcome}
 use Rattle.register.proofs.Outcomes.{withdrawn-is, located-within}
 use Rattle.register.proofs.record_list.RecordListRegister.withdraw.Goals as goal
 
-pub returns-in-err-locate : goal.returns-in-err-locate
-returns-in-err-locate c =
+pub returns-in_err-locate : goal.returns-in_err-locate
+returns-in_err-locate c =
     let o = sym (withdrawn-is (vec_items c.args.self.now.records) c.args.place c.count.result
-    c.in-err-locate.ensures c.count.ensures.value) in
-    let p = err_from_is_err_and c.from-residual.result c.from-residual.ensures.1 in
+    c.in_err-locate.ensures c.count.ensures.value) in
+    let p = err_from_is_err_and c.from_residual.result c.from_residual.ensures.1 in
     record {
       answer = ap answered p.1 ∙ ap (λ (e : Refusal). Err (named e)) p.2 ∙ ap (λ (o : Outcome). o.answer) o;
       list = ap (λ (o : Outcome). o.list) o;
       within = omega (arith, c.args.self.now.records.ok.0);
     }
 
-pub take-out-requires : goal.take-out-requires
-take-out-requires c = let w = located-within c.args.place c.count.result c.in-ok-locate.ensures in omega (arith, c.args.self.now.records.ok.0)
+pub take_out-requires : goal.take_out-requires
+take_out-requires c = let w = located-within c.args.place c.count.result c.in_ok-locate.ensures in omega (arith, c.args.self.now.records.ok.0)
 
 pub returns : goal.returns
 returns c =
     let xs = vec_items c.args.self.now.records in
-    let w = located-within c.args.place c.count.result c.in-ok-locate.ensures in
+    let w = located-within c.args.place c.count.result c.in_ok-locate.ensures in
     let p : c.args.place - 1 + 1 ≡ c.args.place = omega arith in
-    let o = sym (withdrawn-is xs c.args.place c.count.result c.in-ok-locate.ensures c.count.ensures.value) in
+    let o = sym (withdrawn-is xs c.args.place c.count.result c.in_ok-locate.ensures c.count.ensures.value) in
     record {
       answer = ap (λ (o : Outcome). o.answer) o;
-      list = c.take-out.ensures.items ∙ ap (λ (k : ℕ). take (c.args.place - 1) xs ++ drop k xs) p ∙ ap (λ (o : Outcome). o.list) o;
-      within = omega (arith, c.args.self.now.records.ok.0, c.take-out.new.records.ok.0);
+      list = c.take_out.ensures.items ∙ ap (λ (k : ℕ). take (c.args.place - 1) xs ++ drop k xs) p ∙ ap (λ (o : Outcome). o.list) o;
+      within = omega (arith, c.args.self.now.records.ok.0, c.take_out.new.records.ok.0);
     }
