@@ -10,21 +10,21 @@ use Rattle.credential.specs.declared.credentials.Credential.TheVariants.{Member,
 use Rattle.credential.specs.declared.memberships.Membership.{Membership}
 use Rattle.model.specs.Clauses.{Body, of, head, Gives, Clause}
 use Rattle.credential.proofs.Ranges.{entity_path, role_name_path}
-use Rattle.cases.proofs.Tests.{Decides, and_decides, eq_decides, by_iff}
+use Rattle.cases.proofs.Tests.{Settles, and_decides, eq_decides, by_iff}
 
-abbrev pub same-entity : Entity → Entity → Bool
-same-entity a b = eqb a.number b.number
+abbrev pub same_entity : Entity → Entity → Bool
+same_entity a b = eqb a.number b.number
 
-pub same_entity_decides : (a b : Entity) → Decides (same-entity a b) (a ≡ b)
-same_entity_decides a b = by_iff (same-entity a b) (eq_decides a.number b.number) (entity_path a b) (λ e. ap (λ x. x.number) e)
+pub same_entity_decides : (a b : Entity) → Settles (same_entity a b) (a ≡ b)
+same_entity_decides a b = by_iff (same_entity a b) (eq_decides a.number b.number) (entity_path a b) (λ e. ap (λ x. x.number) e)
 
-abbrev pub same-role : Role → Role → Bool
-same-role a b = let n = eqb a.name.number b.name.number in elim (eqb a.owner.number b.owner.number) [ true ↦ n | false ↦ false ]
+abbrev pub same_role : Role → Role → Bool
+same_role a b = let n = eqb a.name.number b.name.number in elim (eqb a.owner.number b.owner.number) [ true ↦ n | false ↦ false ]
 
-pub same_role_decides : (a b : Role) → Decides (same-role a b) (a ≡ b)
+pub same_role_decides : (a b : Role) → Settles (same_role a b) (a ≡ b)
 same_role_decides a b =
     by_iff
-    (same-role a b)
+    (same_role a b)
     (and_decides
     (eqb a.owner.number b.owner.number)
     (eqb a.name.number b.name.number)
@@ -82,7 +82,7 @@ in_entities_to : (k : ℕ) (h : k ≤ 32) (y : Entity) → y.number ≤ k → In
 in_entities_to zero h y l = let low : 1 ≤ y.number = y.low in absurd (omega arith)
 in_entities_to (suc k) h y l = go (λ b. in_entities_to k (down h) y b) (eqb y.number (suc k)) (eq_decides y.number (suc k))
   where
-    go : (y.number ≤ k → In y (entities_to k (down h))) → (b : Bool) → Decides b (y.number ≡ suc k) → In y (entities_to (suc k) h)
+    go : (y.number ≤ k → In y (entities_to k (down h))) → (b : Bool) → Settles b (y.number ≡ suc k) → In y (entities_to (suc k) h)
     go ih true d = inl (entity_path y (record { number = suc k; low = one_up k; high = h }) (d.0 tt))
     go ih false d = inr (ih (let ne : ¬ (y.number ≡ suc k) = d.1 in omega arith))
 
@@ -112,7 +112,7 @@ of_linked h s t d (y ∷ ys) o (inl e) = (y, e)
 of_linked h s t d (y ∷ ys) o (inr k) = of_linked h s t d ys o k
 
 abbrev pub given : Credential → Entity → List Body
-given (Member h b) d = only (same-entity b d) (record { positive = []; negated = none } ∷ [])
+given (Member h b) d = only (same_entity b d) (record { positive = []; negated = none } ∷ [])
 given (Inclusion h f) d = record { positive = of f d ∷ []; negated = none } ∷ []
 given (Linked h s t) d = linked_all h s t d entities
 given (Intersection h f g) d = record { positive = of f d ∷ of g d ∷ []; negated = none } ∷ []
@@ -124,7 +124,7 @@ bodies [] m = []
 bodies (c ∷ cs) m =
     let here = given c m.member in
     let rest = bodies cs m in
-    elim (same-role (head c) m.role) [ true ↦ here ++ rest | false ↦ rest ]
+    elim (same_role (head c) m.role) [ true ↦ here ++ rest | false ↦ rest ]
 
 single : (x o : Body) → In o (x ∷ []) → o ≡ x
 single x o (inl e) = e
@@ -132,7 +132,7 @@ single x o (inr k) = absurd k
 
 gives : (c : Credential) (m : Membership) (o : Body) → head c ≡ m.role → In o (given c m.member) → Gives c m o
 gives (Member h b) m o e k =
-    let x = (only_iff (same-entity b m.member) o (record { positive = []; negated = none } ∷ [])).0 k in
+    let x = (only_iff (same_entity b m.member) o (record { positive = []; negated = none } ∷ [])).0 k in
     (e, (same_entity_decides b m.member).0 x.0, single (record { positive = []; negated = none }) o x.1)
 gives (Inclusion h f) m o e k = (e, single (record { positive = of f m.member ∷ []; negated = none }) o k)
 gives (Linked h s t) m o e k = (e, of_linked h s t m.member entities o k)
@@ -142,7 +142,7 @@ gives (Exclusion h f g) m o e k = (e, single (record { positive = of f m.member 
 given_by : (c : Credential) (m : Membership) (o : Body) → Gives c m o → (head c ≡ m.role) × In o (given c m.member)
 given_by (Member h b) m o k = (
   k.0,
-  (only_iff (same-entity b m.member) o (record { positive = []; negated = none } ∷ [])).1 ((same_entity_decides b m.member).1 k.1) (inl k.2),
+  (only_iff (same_entity b m.member) o (record { positive = []; negated = none } ∷ [])).1 ((same_entity_decides b m.member).1 k.1) (inl k.2),
 )
 given_by (Inclusion h f) m o k = (k.0, inl k.1)
 given_by (Linked h s t) m o k = (
@@ -160,11 +160,11 @@ module _ (c : Credential) (cs : List Credential) (m : Membership) (o : Body) whe
   abbrev Joined : Bool → Type 0
   Joined b = In o (elim b [ true ↦ given c m.member ++ bodies cs m | false ↦ bodies cs m ])
 
-  joined : (b : Bool) → Decides b (head c ≡ m.role) → Joined b → Gives c m o ⊎ In o (bodies cs m)
+  joined : (b : Bool) → Settles b (head c ≡ m.role) → Joined b → Gives c m o ⊎ In o (bodies cs m)
   joined true d k = elim (in_either o (given c m.member) (bodies cs m) k) [ inl h ↦ inl (gives c m o (d.0 tt) h) | inr h ↦ inr h ]
   joined false d k = inr k
 
-  join : (b : Bool) → Decides b (head c ≡ m.role) → Gives c m o ⊎ In o (bodies cs m) → Joined b
+  join : (b : Bool) → Settles b (head c ≡ m.role) → Gives c m o ⊎ In o (bodies cs m) → Joined b
   join true d (inl g) = in_left o (given c m.member) (bodies cs m) (given_by c m o g).1
   join true d (inr h) = in_right o (given c m.member) (bodies cs m) h
   join false d (inl g) = absurd (d.1 (given_by c m o g).0)
@@ -175,7 +175,7 @@ unfolding Clause
 clause_of [] m o k = absurd k
 clause_of (c ∷ cs) m o k =
     elim
-    (joined c cs m o (same-role (head c) m.role) (same_role_decides (head c) m.role) k)
+    (joined c cs m o (same_role (head c) m.role) (same_role_decides (head c) m.role) k)
     [ inl g ↦ (c, inl refl, g) | inr h ↦ let x = clause_of cs m o h in (x.0, inr x.1, x.2) ]
 
 pub of_clause : (cs : List Credential) (m : Membership) (o : Body) → Clause cs m o → In o (bodies cs m)
@@ -187,6 +187,6 @@ of_clause (c ∷ cs) m o k =
     cs
     m
     o
-    (same-role (head c) m.role)
+    (same_role (head c) m.role)
     (same_role_decides (head c) m.role)
     (elim k.1 [ inl e ↦ inl (subst (λ x. Gives x m o) e k.2) | inr a ↦ inr (of_clause cs m o (k.0, a, k.2)) ])

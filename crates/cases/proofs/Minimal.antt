@@ -118,7 +118,7 @@ module _ (creds : List Credential) (t : Table) (rank : Membership → ℕ) where
                     | inr u ↦ let b : number t m ≤ suc (number t p) = u.1 in let y : number t p ≤ k = rec p s in omega arith
                   ]
             ])
-            (λ q not-true e. absurd (not-true (number t q, T→true creds t c q e)))
+            (λ q not_true e. absurd (not_true (number t q, T→true creds t c q e)))
 
     pub least : Least creds t
     least =

@@ -4,7 +4,7 @@ use Rattle.credential.specs.declared.credentials.Credential.{Credential}
 use Rattle.credential.specs.declared.memberships.Membership.{Membership}
 use Rattle.model.specs.Clauses.{Body, Clause}
 use Rattle.model.specs.Tables.{Table, verdict, number, Lawful, IsT, IsF, IsU, TClause, FClauses, NoTrueClause, UClause}
-use Rattle.cases.proofs.Tests.{Decides, and_decides, or_decides, implies_decides, not_decides, eq_decides, le_decides, by_iff, every, some', if_negated, has_negated, every_decides, some_decides, if_decides, has_decides}
+use Rattle.cases.proofs.Tests.{Settles, and_decides, or_decides, implies_decides, not_decides, eq_decides, le_decides, by_iff, every, some', if_negated, has_negated, every_decides, some_decides, if_decides, has_decides}
 use Rattle.cases.proofs.Bodied.{In, bodies, clause_of, of_clause}
 use Rattle.cases.proofs.Minimal.{TFirst, FFirst, UFirst}
 
@@ -17,8 +17,8 @@ module _ (f : Body → Bool) where
   each_body [] = true
   each_body (o ∷ os) = let r = each_body os in elim (f o) [ true ↦ r | false ↦ false ]
 
-  module _ {P : Body → Type 0} (d : (o : Body) → Decides (f o) (P o)) where
-    some_in : (os : List Body) → Decides (some_body os) ((o : Body) × In o os × P o)
+  module _ {P : Body → Type 0} (d : (o : Body) → Settles (f o) (P o)) where
+    some_in : (os : List Body) → Settles (some_body os) ((o : Body) × In o os × P o)
     some_in [] = (λ t. absurd t, λ h. h.1)
     some_in (o ∷ os) =
         by_iff
@@ -27,7 +27,7 @@ module _ (f : Body → Bool) where
         (elim [ inl h ↦ (o, inl refl, h) | inr h ↦ (h.0, inr h.1, h.2) ])
         (λ h. elim h.1 [ inl e ↦ inl (subst P e h.2) | inr i ↦ inr (h.0, i, h.2) ])
 
-    each_in : (os : List Body) → Decides (each_body os) ((o : Body) → In o os → P o)
+    each_in : (os : List Body) → Settles (each_body os) ((o : Body) → In o os → P o)
     each_in [] = (λ t o i. absurd i, λ h. tt)
     each_in (o ∷ os) =
         by_iff
@@ -36,7 +36,7 @@ module _ (f : Body → Bool) where
         (λ h x. elim [ inl e ↦ subst P (sym e) h.0 | inr i ↦ h.1 x i ])
         (λ h. (h o (inl refl), λ x i. h x (inr i)))
 
-    pub some_clause : (cs : List Credential) (m : Membership) → Decides (some_body (bodies cs m)) ((o : Body) × Clause cs m o × P o)
+    pub some_clause : (cs : List Credential) (m : Membership) → Settles (some_body (bodies cs m)) ((o : Body) × Clause cs m o × P o)
     some_clause cs m =
         by_iff
         (some_body (bodies cs m))
@@ -44,7 +44,7 @@ module _ (f : Body → Bool) where
         (λ h. (h.0, clause_of cs m h.0 h.1, h.2))
         (λ h. (h.0, of_clause cs m h.0 h.1, h.2))
 
-    pub each_clause : (cs : List Credential) (m : Membership) → Decides (each_body (bodies cs m)) ((o : Body) → Clause cs m o → P o)
+    pub each_clause : (cs : List Credential) (m : Membership) → Settles (each_body (bodies cs m)) ((o : Body) → Clause cs m o → P o)
     each_clause cs m =
         by_iff
         (each_body (bodies cs m))
@@ -143,25 +143,25 @@ module _ (cs : List Credential) (v n rank : Membership → ℕ) where
       ]
 
   module _ (t : Table) (ev : (m : Membership) → v m ≡ verdict t m) (en : (m : Membership) → n m ≡ number t m) where
-    pub is : (p : Membership) (x : ℕ) → Decides (eqb (v p) x) (verdict t p ≡ x)
-    is p x = subst (λ w. Decides (eqb (v p) x) (w ≡ x)) (ev p) (eq_decides (v p) x)
+    pub is : (p : Membership) (x : ℕ) → Settles (eqb (v p) x) (verdict t p ≡ x)
+    is p x = subst (λ w. Settles (eqb (v p) x) (w ≡ x)) (ev p) (eq_decides (v p) x)
 
-    pub below : (p m : Membership) → Decides (leb (suc (n p)) (n m)) (number t p < number t m)
-    below p m = subst₂ (λ a b. Decides (leb (suc (n p)) (n m)) (a < b)) (en p) (en m) (le_decides (suc (n p)) (n m))
+    pub below : (p m : Membership) → Settles (leb (suc (n p)) (n m)) (number t p < number t m)
+    below p m = subst₂ (λ a b. Settles (leb (suc (n p)) (n m)) (a < b)) (en p) (en m) (le_decides (suc (n p)) (n m))
 
-    up_to : (p m : Membership) → Decides (leb (n p) (n m)) (number t p ≤ number t m)
-    up_to p m = subst₂ (λ a b. Decides (leb (n p) (n m)) (a ≤ b)) (en p) (en m) (le_decides (n p) (n m))
+    up_to : (p m : Membership) → Settles (leb (n p) (n m)) (number t p ≤ number t m)
+    up_to p m = subst₂ (λ a b. Settles (leb (n p) (n m)) (a ≤ b)) (en p) (en m) (le_decides (n p) (n m))
 
-    next_to : (m p : Membership) → Decides (leb (n m) (suc (n p))) (number t m ≤ suc (number t p))
-    next_to m p = subst₂ (λ a b. Decides (leb (n m) (suc (n p))) (a ≤ suc b)) (en m) (en p) (le_decides (n m) (suc (n p)))
+    next_to : (m p : Membership) → Settles (leb (n m) (suc (n p))) (number t m ≤ suc (number t p))
+    next_to m p = subst₂ (λ a b. Settles (leb (n m) (suc (n p))) (a ≤ suc b)) (en m) (en p) (le_decides (n m) (suc (n p)))
 
-    pub at_most : (m : Membership) (k : ℕ) → Decides (leb (n m) k) (number t m ≤ k)
-    at_most m k = subst (λ a. Decides (leb (n m) k) (a ≤ k)) (en m) (le_decides (n m) k)
+    pub at_most : (m : Membership) (k : ℕ) → Settles (leb (n m) k) (number t m ≤ k)
+    at_most m k = subst (λ a. Settles (leb (n m) k) (a ≤ k)) (en m) (le_decides (n m) k)
 
-    pub at_least : (m : Membership) (k : ℕ) → Decides (leb k (n m)) (k ≤ number t m)
-    at_least m k = subst (λ a. Decides (leb k (n m)) (k ≤ a)) (en m) (le_decides k (n m))
+    pub at_least : (m : Membership) (k : ℕ) → Settles (leb k (n m)) (k ≤ number t m)
+    at_least m k = subst (λ a. Settles (leb k (n m)) (k ≤ a)) (en m) (le_decides k (n m))
 
-    pub f_decides : (m : Membership) → Decides (f_test m) (FClauses cs t m)
+    pub f_decides : (m : Membership) → Settles (f_test m) (FClauses cs t m)
     f_decides m =
         each_clause
         _
@@ -174,7 +174,7 @@ module _ (cs : List Credential) (v n rank : Membership → ℕ) where
         cs
         m
 
-    pub t_decides : (m : Membership) → Decides (t_test m) (TClause cs t m)
+    pub t_decides : (m : Membership) → Settles (t_test m) (TClause cs t m)
     t_decides m =
         by_iff
         (t_test m)
@@ -191,7 +191,7 @@ module _ (cs : List Credential) (v n rank : Membership → ℕ) where
         (λ h. (h.0, h.1, h.2.0, h.2.1))
         (λ h. (h.0, h.1, (h.2, h.3)))
 
-    pub no_true_decides : (m : Membership) → Decides (no_true_test m) (NoTrueClause cs t m)
+    pub no_true_decides : (m : Membership) → Settles (no_true_test m) (NoTrueClause cs t m)
     no_true_decides m =
         by_iff
         (no_true_test m)
@@ -203,7 +203,7 @@ module _ (cs : List Credential) (v n rank : Membership → ℕ) where
         (λ h o cl a b. h o cl (a, b))
         (λ h o cl k. h o cl k.0 k.1)
 
-    pub u_decides : (m : Membership) → Decides (u_test m) (UClause cs t m)
+    pub u_decides : (m : Membership) → Settles (u_test m) (UClause cs t m)
     u_decides m =
         by_iff
         (u_test m)
@@ -220,7 +220,7 @@ module _ (cs : List Credential) (v n rank : Membership → ℕ) where
         (λ h. (h.0, h.1, h.2.0, h.2.1))
         (λ h. (h.0, h.1, (h.2, h.3)))
 
-    pub t_first_decides : (m : Membership) → Decides (t_first_test m) (TFirst cs t rank m)
+    pub t_first_decides : (m : Membership) → Settles (t_first_test m) (TFirst cs t rank m)
     t_first_decides m =
         or_decides
         _
@@ -237,7 +237,7 @@ module _ (cs : List Credential) (v n rank : Membership → ℕ) where
         cs
         m)
 
-    pub f_first_decides : (m : Membership) → Decides (f_first_test m) (FFirst cs t rank m)
+    pub f_first_decides : (m : Membership) → Settles (f_first_test m) (FFirst cs t rank m)
     f_first_decides m =
         or_decides
         _
@@ -257,7 +257,7 @@ module _ (cs : List Credential) (v n rank : Membership → ℕ) where
         cs
         m)
 
-    pub u_first_decides : (m : Membership) → Decides (u_first_test m) (UFirst cs t rank m)
+    pub u_first_decides : (m : Membership) → Settles (u_first_test m) (UFirst cs t rank m)
     u_first_decides m =
         or_decides
         _
@@ -304,7 +304,7 @@ module _ (cs : List Credential) (v n rank : Membership → ℕ) where
       ]
 
   module _ (t : Table) (ev : (m : Membership) → v m ≡ verdict t m) (en : (m : Membership) → n m ≡ number t m) where
-    pub lawful_decides : (m : Membership) → Decides (lawful_test m) (Lawful t m)
+    pub lawful_decides : (m : Membership) → Settles (lawful_test m) (Lawful t m)
     lawful_decides m =
         by_iff
         (lawful_test m)
@@ -317,7 +317,7 @@ module _ (cs : List Credential) (v n rank : Membership → ℕ) where
         (λ h. (h.0, (h.1, h.2)))
 
     pub meets_decides : (m : Membership)
-        → Decides
+        → Settles
         (meets_test m)
         ((IsT t m → TClause cs t m) × ((IsF t m → FClauses cs t m) × (IsU t m → NoTrueClause cs t m × UClause cs t m)))
     meets_decides m =
@@ -332,7 +332,7 @@ module _ (cs : List Credential) (v n rank : Membership → ℕ) where
         (implies_decides _ _ (is t ev en m 85) (and_decides _ _ (no_true_decides t ev en m) (u_decides t ev en m))))
 
     pub first_decides : (m : Membership)
-        → Decides
+        → Settles
         (first_test m)
         ((IsT t m → TFirst cs t rank m) × ((IsF t m → FFirst cs t rank m) × (IsU t m → UFirst cs t rank m)))
     first_decides m =

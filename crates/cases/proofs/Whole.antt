@@ -1,5 +1,5 @@
 -- A whole table from a few rows: what a test at each membership shows of it.
-use Rattle.std.proofs.Common.{◌≡◌, ℕ, zero, suc, ◌+◌, ◌-◌, ◌<◌, ◌≤◌, Bool, true, false, not, T, eqb, leb, ◌⊎◌, List, [], ◌∷◌, length, get_or, sym, refl, ap, ◌∙◌, subst, inl, inr, le_refl, le_of_suc-le-suc, not-suc-le-zero, add-zero, add-suc, suc-add, zero-add, arith}
+use Rattle.std.proofs.Common.{◌≡◌, ℕ, zero, suc, ◌+◌, ◌<◌, ◌≤◌, Bool, true, false, not, T, eqb, leb, ◌⊎◌, List, [], ◌∷◌, length, get_or, sym, refl, ap, ◌∙◌, subst, inl, inr, le_refl, le_of_suc-le-suc, not-suc-le-zero, add-zero, add-suc, suc-add, zero-add, arith}
 use native.Mathlib.Nat.{le_of_suc-le}
 use Rattle.credential.specs.declared.numbers.RoleName.{RoleName}
 use Rattle.credential.specs.declared.credentials.Credential.{Credential}
@@ -9,7 +9,7 @@ use Rattle.model.specs.Clauses.{of}
 use Rattle.model.specs.Tables.{verdict, number, IsT, IsF, IsU, Certifies, Least, TClause, FClauses, UClause, NoTrueClause}
 use Rattle.cases.specs.Sparse.{Row, verdict_in, number_in, listed, whole}
 use Rattle.checker.specs.Checks.{Breaks, Broken}
-use Rattle.cases.proofs.Tests.{Decides, and_decides, or_decides, implies_decides, eq_decides, not_decides, le_decides, by_iff}
+use Rattle.cases.proofs.Tests.{Settles, and_decides, or_decides, implies_decides, eq_decides, not_decides, le_decides, by_iff}
 use Rattle.cases.proofs.Bodied.{In, entities, in_entities, one_up}
 use Rattle.credential.proofs.Ranges.{role_name_path}
 use Rattle.cases.proofs.Rules.{lawful_test, meets_test, first_test, t_test, f_test, no_true_test, u_test, is, lawful_decides, meets_decides, first_decides, t_decides, f_decides, no_true_decides, u_decides}
@@ -43,9 +43,9 @@ module _ (rows : List Row) where
   unfolding number whole
   n_is m = ap (number_in rows) (sym (zero-add (place m))) ∙ sym (at_listed (number_in rows) 0 16384 (place m) (place-below m))
 
-  pub whole-sizes : (length (whole rows).verdicts ≡ 16384) × (length (whole rows).numbers ≡ 16384)
+  pub whole_sizes : (length (whole rows).verdicts ≡ 16384) × (length (whole rows).numbers ≡ 16384)
   unfolding whole
-  whole-sizes = (length-listed (verdict_in rows) 0 16384, length-listed (number_in rows) 0 16384)
+  whole_sizes = (length-listed (verdict_in rows) 0 16384, length-listed (number_in rows) 0 16384)
 
 -- all role names
 pub down16 : {k : ℕ} → suc k ≤ 16 → k ≤ 16
@@ -62,7 +62,7 @@ in_names_to : (k : ℕ) (h : k ≤ 16) (y : RoleName) → y.number ≤ k → In 
 in_names_to zero h y l = let low : 1 ≤ y.number = y.low in absurd (omega arith)
 in_names_to (suc k) h y l = go (λ b. in_names_to k (down16 h) y b) (eqb y.number (suc k)) (eq_decides y.number (suc k))
   where
-    go : (y.number ≤ k → In y (names_to k (down16 h))) → (b : Bool) → Decides b (y.number ≡ suc k) → In y (names_to (suc k) h)
+    go : (y.number ≤ k → In y (names_to k (down16 h))) → (b : Bool) → Settles b (y.number ≡ suc k) → In y (names_to (suc k) h)
     go ih true d = inl (role_name_path y (record { number = suc k; low = one_up k; high = h }) (d.0 tt))
     go ih false d = inr (ih (let ne : ¬ (y.number ≡ suc k) = d.1 in omega arith))
 
@@ -72,9 +72,9 @@ module _ {A : Type 0} (f : A → Bool) where
   all [] = true
   all (x ∷ xs) = let r = all xs in elim (f x) [ true ↦ r | false ↦ false ]
 
-  all-at : (xs : List A) → T (all xs) → (x : A) → In x xs → T (f x)
-  all-at [] t x i = absurd i
-  all-at (y ∷ ys) t x i = go (f y) refl (λ u k. all-at ys u x k) t i
+  all_at : (xs : List A) → T (all xs) → (x : A) → In x xs → T (f x)
+  all_at [] t x i = absurd i
+  all_at (y ∷ ys) t x i = go (f y) refl (λ u k. all_at ys u x k) t i
     where
       go : (b : Bool) → f y ≡ b → (T (all ys) → In x ys → T (f x)) → T (elim b [ true ↦ all ys | false ↦ false ]) → (x ≡ y) ⊎ In x ys → T (f x)
       go true e rec t (inl p) = subst (λ z. T (f z)) (sym p) (subst T (sym e) tt)
@@ -87,13 +87,13 @@ everywhere f = all (λ a. all (λ r. all (λ d. f (of (record { owner = a; name 
 
 pub at_each : (f : Membership → Bool) → T (everywhere f) → (m : Membership) → T (f m)
 at_each f t m =
-    all-at
+    all_at
     (λ d. f (of m.role d))
     entities
-    (all-at
+    (all_at
     (λ r. all (λ d. f (of (record { owner = m.role.owner; name = r }) d)) entities)
     (names_to 16 sixteen)
-    (all-at (λ a. all (λ r. all (λ d. f (of (record { owner = a; name = r }) d)) entities) (names_to 16 sixteen)) entities t m.role.owner (in_entities m.role.owner))
+    (all_at (λ a. all (λ r. all (λ d. f (of (record { owner = a; name = r }) d)) entities) (names_to 16 sixteen)) entities t m.role.owner (in_entities m.role.owner))
     m.role.name
     (in_names_to 16 sixteen m.role.name m.role.name.high))
     m.member
@@ -141,7 +141,7 @@ module _ (creds : List Credential) (rows : List Row) (rank : Membership → ℕ)
       certified : Certifies creds (whole rows)
       certified =
           record {
-            sizes = whole-sizes rows;
+            sizes = whole_sizes rows;
             lawful = λ m. (lawful_decides creds (v rows) (n rows) rank (whole rows) (v_is rows) (n_is rows) m).0 (passed m).0;
             true_ones = λ m. (meets m).0;
             false_ones = λ m. (meets m).1.0;
@@ -155,32 +155,32 @@ module _ (creds : List Credential) (rows : List Row) (rank : Membership → ℕ)
   abbrev pub breaks_test : ℕ → Membership → Bool
   breaks_test code m =
       let is_T = eqb (v rows m) 84 in
-      let is-F = eqb (v rows m) 70 in
-      let is-U = eqb (v rows m) 85 in
-      let with-T = t_test creds (v rows) (n rows) rank m in
-      let with-F = f_test creds (v rows) (n rows) rank m in
+      let is_F = eqb (v rows m) 70 in
+      let is_U = eqb (v rows m) 85 in
+      let with_T = t_test creds (v rows) (n rows) rank m in
+      let with_F = f_test creds (v rows) (n rows) rank m in
       let none_true = no_true_test creds (v rows) (n rows) rank m in
-      let with-U = u_test creds (v rows) (n rows) rank m in
+      let with_U = u_test creds (v rows) (n rows) rank m in
       elim
-      (elim (eqb code 12) as (λ _. Bool) [ true ↦ elim is_T [ true ↦ not with-T | false ↦ false ] | false ↦ false ]) [
+      (elim (eqb code 12) as (λ _. Bool) [ true ↦ elim is_T [ true ↦ not with_T | false ↦ false ] | false ↦ false ]) [
         | true ↦ true
         | false ↦
             elim
-            (elim (eqb code 13) as (λ _. Bool) [ true ↦ elim is-F [ true ↦ not with-F | false ↦ false ] | false ↦ false ]) [
+            (elim (eqb code 13) as (λ _. Bool) [ true ↦ elim is_F [ true ↦ not with_F | false ↦ false ] | false ↦ false ]) [
               | true ↦ true
               | false ↦
                   elim
-                  (elim (eqb code 14) as (λ _. Bool) [ true ↦ elim is-U [ true ↦ not none_true | false ↦ false ] | false ↦ false ]) [
+                  (elim (eqb code 14) as (λ _. Bool) [ true ↦ elim is_U [ true ↦ not none_true | false ↦ false ] | false ↦ false ]) [
                     | true ↦ true
                     | false ↦
                         elim
                         (eqb code 15)
-                        [ true ↦ elim is-U [ true ↦ elim none_true [ true ↦ not with-U | false ↦ false ] | false ↦ false ] | false ↦ false ]
+                        [ true ↦ elim is_U [ true ↦ elim none_true [ true ↦ not with_U | false ↦ false ] | false ↦ false ] | false ↦ false ]
                   ]
             ]
       ]
 
-  breaks_decides : (code : ℕ) (m : Membership) → Decides (breaks_test code m) (Breaks creds (whole rows) code m)
+  breaks_decides : (code : ℕ) (m : Membership) → Settles (breaks_test code m) (Breaks creds (whole rows) code m)
   breaks_decides code m =
       or_decides
       _
@@ -205,16 +205,16 @@ module _ (creds : List Credential) (rows : List Row) (rank : Membership → ℕ)
       (entry 85)
       (and_decides _ _ no_true (not_decides _ (u_decides creds (v rows) (n rows) rank (whole rows) (v_is rows) (n_is rows) m))))))))
     where
-      three_parts : {A B C : Type 0} (b : Bool) → Decides b (A × (B × C)) → Decides b (A × B × C)
+      three_parts : {A B C : Type 0} (b : Bool) → Settles b (A × (B × C)) → Settles b (A × B × C)
       three_parts b d = by_iff b d (λ h. (h.0, h.1.0, h.1.1)) (λ h. (h.0, (h.1, h.2)))
 
-      four_parts : {A B C D : Type 0} (b : Bool) → Decides b (A × (B × (C × D))) → Decides b (A × B × C × D)
+      four_parts : {A B C D : Type 0} (b : Bool) → Settles b (A × (B × (C × D))) → Settles b (A × B × C × D)
       four_parts b d = by_iff b d (λ h. (h.0, h.1.0, h.1.1.0, h.1.1.1)) (λ h. (h.0, (h.1, (h.2, h.3))))
 
-      entry : (x : ℕ) → Decides (eqb (v rows m) x) (verdict (whole rows) m ≡ x)
+      entry : (x : ℕ) → Settles (eqb (v rows m) x) (verdict (whole rows) m ≡ x)
       entry x = is creds (v rows) (n rows) rank (whole rows) (v_is rows) (n_is rows) m x
 
-      no_true : Decides (no_true_test creds (v rows) (n rows) rank m) (NoTrueClause creds (whole rows) m)
+      no_true : Settles (no_true_test creds (v rows) (n rows) rank m) (NoTrueClause creds (whole rows) m)
       no_true = no_true_decides creds (v rows) (n rows) rank (whole rows) (v_is rows) (n_is rows) m
 
   pub refused_by_test : (code p : ℕ)
@@ -225,7 +225,7 @@ module _ (creds : List Credential) (rows : List Row) (rank : Membership → ℕ)
       → Broken creds (whole rows) code p
   refused_by_test code p below l b f =
       record {
-        sizes = whole-sizes rows;
+        sizes = whole_sizes rows;
         lawful = λ m. (lawful_decides creds (v rows) (n rows) rank (whole rows) (v_is rows) (n_is rows) m).0 (at_each (lawful_test creds (v rows) (n rows) rank) l m);
         before = λ m h.
             let k =

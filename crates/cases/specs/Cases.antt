@@ -1,5 +1,5 @@
 -- Worked cases: credentials with their least certificate, and tables that are refused.
-use Rattle.std.specs.Prelude.{◌≡◌, ℕ, ◌≤◌, T, List, [], ◌∷◌, ◌++◌, Ok, Err, codes, nat_le}
+use Rattle.std.specs.Prelude.{◌≡◌, ℕ, T, List, [], ◌∷◌, ◌++◌, Ok, Err, codes, nat_le}
 use Rattle.std.proofs.Common.{lit≤}
 use Rattle.credential.specs.declared.numbers.Entity.{Entity}
 use Rattle.credential.specs.declared.numbers.RoleName.{RoleName}

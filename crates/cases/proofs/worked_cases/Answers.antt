@@ -1,6 +1,5 @@
-use Rattle.std.proofs.Common.{refl}
 use Rattle.cases.proofs.Worked.{cases_hold}
 use Rattle.cases.proofs.worked_cases.Goals as goal
 
-pub returns : goal.returns
-returns c = record { count = refl; hold = cases_hold }
+pub returns-clause-hold : goal.returns-clause-hold
+returns-clause-hold c = cases_hold
