@@ -5,7 +5,7 @@ use Rattle.std.proofs.lemmas.List.{length-set, get_or-set_same, get_or-set_other
 use Rattle.credential.specs.declared.numbers.RoleName.{RoleName}
 use Rattle.history.specs.Events.{Making, Slip, History, published, withdrawn, certified, adopted, offered, drawn, declined, handed_back, refused}
 use Rattle.history.specs.Words.{total, HasItemAt, one_if, among, Lease, leases, declines, hand_backs, ended, held, open_by, offers_given, weight_of, for}
-use Rattle.history.specs.Contents.{is_free, is_offered, is_held, Contents, record_of, opened, in_book, figure, one_more, Tells, Keeps, made, MakingKeeps}
+use Rattle.history.specs.Contents.{is_free, is_offered, is_held, Contents, record_of, opened, in_book, figure, one_more, Tells, Keeps, MakingKeeps}
 use Rattle.history.specs.Steps.{CallsKeep}
 use Rattle.history.proofs.Sums.{total_le, total_balance, total-set, total-at}
 use Rattle.history.proofs.Leases.{serial-of, weighed, the_lease, Orderly, orderly, ends_one, not_ended, new_open, new_not_held, summed-before, declined_ends, handed_back_ends}

@@ -11,7 +11,7 @@ use Rattle.model.proofs.Order.{order_does_not_matter}
 use Rattle.checker.proofs.Unique.{one_answer as one-check}
 use Rattle.evaluator.proofs.Unique.{one_evaluation}
 use Rattle.history.specs.Events.{Slip, Call, Event, publish, withdraw, certify, adopt, offer, draw, decline, hand_back, published, withdrawn, certified, adopted, offered, drawn, declined, handed_back, refused, call, asked}
-use Rattle.history.specs.Words.{standing, certificate}
+use Rattle.history.specs.Words.{standing}
 use Rattle.history.specs.Law.{Facts, facts, Due, Refuses, InRange, already_stands, register_full, no_such_place, not_evaluated, not_accepted, out_of_range, no_certificate, is_false, is_undefined, book_full, all_given, not_to_draw, not_to_decline, not_to_hand_back}
 use Rattle.history.specs.Theorems.{OneAnswer, FilledIsAdopted}
 use Rattle.history.proofs.Asked.{same_asked, in_range}

@@ -7,7 +7,7 @@ use Rattle.credential.specs.declared.numbers.RoleName.{RoleName}
 use Rattle.credential.specs.Memberships.{place}
 use Rattle.model.specs.Tables.{Table, table, verdict}
 use Rattle.history.specs.Events.{Making, Event, History, published, withdrawn, certified, adopted, offered, drawn, declined, handed_back, refused, call, HasCall}
-use Rattle.history.specs.Words.{total, HasItemAt, standing, certificate, Lease, open_leases, offers_given, IsOffered, IsHeld}
+use Rattle.history.specs.Words.{HasItemAt, standing, certificate, Lease, open_leases, offers_given, IsOffered, IsHeld}
 use Rattle.history.specs.Law.{Facts, facts, Due}
 use Rattle.history.specs.Contents.{Entry, is_free, is_offered, is_held, Figures, Contents, in_book, one_more, Keeps}
 
