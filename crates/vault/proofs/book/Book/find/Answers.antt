@@ -24,7 +24,7 @@ pub loop-i-preserved : goal.loop-i-preserved
 loop-i-preserved c =
     let h : c.loop-i.i < length (vec_items c.args.self.now.table.records) = omega (arith, c.args.self.now.full, c.args.self.now.table.records.ok.0) in
     not_here (is_of c.args.serial c.args.held) (vec_items c.args.self.now.table.records) c.loop-i.i c.index.result.now h c.index.ensures c.loop-i.invariant
-    (ap (λ (o : Option words.Lease). is_some o) c.in-default.ensures)
+    (ap (λ (o : Option words.Lease). is_some o) c.in_default.ensures)
 
 pub returns : goal.returns
 returns c =

@@ -15,7 +15,7 @@ returns-then-is-free c =
 pub loop-i-preserved : goal.loop-i-preserved
 loop-i-preserved c =
     let h : c.loop-i.i < length (vec_items c.args.self.now.table.records) = omega (arith, c.args.self.now.full, c.args.self.now.table.records.ok.0) in
-    not_here is_spare (vec_items c.args.self.now.table.records) c.loop-i.i c.index.result.now h c.index.ensures c.loop-i.invariant c.if-is-free.ensures
+    not_here is_spare (vec_items c.args.self.now.table.records) c.loop-i.i c.index.result.now h c.index.ensures c.loop-i.invariant c.if-is_free.ensures
 
 pub returns : goal.returns
 returns c =

@@ -14,8 +14,8 @@ loop-i-init c = (
 pub loop-i-preserved : goal.loop-i-preserved
 loop-i-preserved c =
     let u : ℕ = get_or c.args.units.now c.loop-i.i 0 in
-    let row : c.row-of.result ≡ row_of c.index-tallies-i.result u = c.row-of.ensures.value ∙ ap (λ (t : Tally). row_of t u) (sym c.index-tallies-i.is) in
-    let few = c.row-of.ensures.few in (
+    let row : c.row_of.result ≡ row_of c.index-tallies-i.result u = c.row_of.ensures.value ∙ ap (λ (t : Tally). row_of t u) (sym c.index-tallies-i.is) in
+    let few = c.row_of.ensures.few in (
       c.join-sum.ensures
           ∙ (λ j. joint (c.loop-i.invariant.0 j) (row j))
           ∙ sums_more c.args.units.now c.args.tallies.now c.loop-i.i c.index-tallies-i.result u (search rules) c.index-tallies-i.is refl,

@@ -21,10 +21,10 @@ loop-i-preserved c =
     let is : t ≡ get_or ts c.loop-i.i t = c.index-tallies-i.is in
     elim c.if-tally-gt0.branch [
       | then-tally-gt0 w ↦
-          let row : w.row-of-row.result ≡ row_of t u = w.row-of-row.ensures.value ∙ ap (λ (x : Tally). row_of x u) (sym is) in
-          let line : w.write-role-line.new.line ≡ numeral 3 (c.loop-i.i + 1) ++ row_text (row_of t u) =
-          w.write-role-line.ensures ∙ ap (λ (x : Row). numeral 3 (c.loop-i.i + 1) ++ row_text x) row in
-          let p = lines_more us ts c.loop-i.i t u (search rules) is refl c.loop-i.end c.args.out.now c.loop-i.out w.write-role-line.new.line
+          let row : w.row_of-row.result ≡ row_of t u = w.row_of-row.ensures.value ∙ ap (λ (x : Tally). row_of x u) (sym is) in
+          let line : w.write_role_line.new.line ≡ numeral 3 (c.loop-i.i + 1) ++ row_text (row_of t u) =
+          w.write_role_line.ensures ∙ ap (λ (x : Row). numeral 3 (c.loop-i.i + 1) ++ row_text x) row in
+          let p = lines_more us ts c.loop-i.i t u (search rules) is refl c.loop-i.end c.args.out.now c.loop-i.out w.write_role_line.new.line
           (λ e. omega (arith, w.if-tally-gt0.true, ap (λ (x : Tally). x.given) is)) line (search rules) c.loop-i.invariant.1 c.loop-i.invariant.0 in (
             w.out-is ∙ p.0 ∙ ap (λ (n : ℕ). lines_to (c.loop-i.i + 1) us ts ++ drop n c.args.out.now) (sym w.end-is),
             w.end-is ∙ p.1,
