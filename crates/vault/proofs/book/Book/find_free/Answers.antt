@@ -5,11 +5,11 @@ use Rattle.vault.proofs.Finding.{found_here, not_here, nowhere}
 use Rattle.vault.proofs.Found.{found_spare}
 use Rattle.vault.proofs.book.Book.find_free.Goals as goal
 
-pub returns-then-is-free : goal.returns-then-is-free
-returns-then-is-free c =
+pub returns-then-is_free : goal.returns-then-is_free
+returns-then-is_free c =
     let h : c.loop-i.i < length (vec_items c.args.self.now.table.records) = omega (arith, c.args.self.now.full, c.args.self.now.table.records.ok.0) in
     let e : Some c.loop-i.i ≡ first is_spare (entries c.args.self.now) =
-    found_here is_spare (vec_items c.args.self.now.table.records) c.loop-i.i c.index.result.now h c.index.ensures c.loop-i.invariant c.if-is-free.ensures in
+    found_here is_spare (vec_items c.args.self.now.table.records) c.loop-i.i c.index.result.now h c.index.ensures c.loop-i.invariant c.if-is_free.ensures in
     record { value = e; spare = found_spare (entries c.args.self.now) (Some c.loop-i.i) e }
 
 pub loop-i-preserved : goal.loop-i-preserved

@@ -8,9 +8,9 @@ loop-i-preserved c =
     let h : c.loop-i.i < length (vec_items c.args.self.now.table.records) = omega (arith, c.args.self.now.full, c.args.self.now.table.records.ok.0) in
     elim c.if-is_open_for.branch [
       | then-is_open_for w ↦
-          (omega (arith, w.count-is, counted c.args.name.number (vec_items c.args.self.now.table.records) c.loop-i.i c.loop-i.count c.index.result.now true h c.index.ensures w.if-is-open-for.ensures c.loop-i.invariant.0), omega (arith, w.count-is, c.loop-i.invariant.1))
+          (omega (arith, w.count-is, counted c.args.name.number (vec_items c.args.self.now.table.records) c.loop-i.i c.loop-i.count c.index.result.now true h c.index.ensures w.if-is_open_for.ensures c.loop-i.invariant.0), omega (arith, w.count-is, c.loop-i.invariant.1))
       | else-is_open_for w ↦
-          (omega (arith, w.count-is, counted c.args.name.number (vec_items c.args.self.now.table.records) c.loop-i.i c.loop-i.count c.index.result.now false h c.index.ensures w.if-is-open-for.ensures c.loop-i.invariant.0), omega (arith, w.count-is, c.loop-i.invariant.1))
+          (omega (arith, w.count-is, counted c.args.name.number (vec_items c.args.self.now.table.records) c.loop-i.i c.loop-i.count c.index.result.now false h c.index.ensures w.if-is_open_for.ensures c.loop-i.invariant.0), omega (arith, w.count-is, c.loop-i.invariant.1))
     ]
 
 pub returns : goal.returns
