@@ -11,6 +11,7 @@ use std::alloc::{AllocError, Global};
 
 #[cfg(test)]
 mod tests;
+#[cfg(test)]
 pub mod trials;
 
 // A call of a register.

@@ -31,7 +31,7 @@ fn contexts(rt: HostRuntime) -> Result<(), Fail> {
     let expected = [Credential::new(Letter::Inclusion, inclusion)?];
     let context = Context::new(&records);
     let credentials = list(rt.alloc(), &Context::new(&context))?;
-    assert!(rt; credentials.as_slice() == &expected);
+    assert!(rt; credentials.as_slice() == expected.as_slice());
     let mut text = PageText::new(rt.alloc())?;
     assert_eq!(rt;
         publish_all(&mut text, &context),

@@ -43,9 +43,9 @@ pub(crate) fn behaves<R: Register>(
         None,
         None,
     ];
-    assert_eq!(rt; answers.as_slice(), &expected);
+    assert_eq!(rt; answers.as_slice(), expected.as_slice());
     let list = list(heap, register)?;
-    assert!(rt; list.as_slice() == &[b, c, a]);
+    assert!(rt; list.as_slice() == [b, c, a].as_slice());
     Ok(())
 }
 
@@ -71,7 +71,7 @@ pub(crate) fn fills<R: Register>(
     let answers = drive(heap, register, &calls)?;
     assert_eq!(rt;
         answers.as_slice(),
-        &[Some(7), Some(6), Some(8), None, None]
+        [Some(7), Some(6), Some(8), None, None].as_slice()
     );
     Ok(())
 }
