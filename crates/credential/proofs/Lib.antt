@@ -1,4 +1,5 @@
 pub mod Ranges
 pub mod Fields
 pub mod Building
+pub mod Equalities
 pub mod Placing

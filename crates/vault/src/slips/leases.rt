@@ -1,22 +1,11 @@
 // Lease slips, which can be handed back.
 ghost use Rattle.std.specs.Prelude.{◌≡◌};
 
-// A lease that was drawn and not yet handed back. It is moved and never copied.
+// A lease that was drawn and not yet handed back. It is moved and never copied. As it is not `Drop`,
+// nobody can let it go: a program that does is refused before it runs.
 pub struct LeaseSlip {
     vault: u16,
     serial: u32,
-}
-
-// Nothing meets what this requires: a slip that is let go is refused before the program runs.
-impl Drop for LeaseSlip {
-    fn drop(self)
-        requires { ⊥ }
-    {
-        let LeaseSlip {
-            vault: _,
-            serial: _,
-        } = self;
-    }
 }
 
 impl LeaseSlip {

@@ -1,22 +1,11 @@
 // Offer slips, which can be drawn or declined.
 ghost use Rattle.std.specs.Prelude.{◌≡◌};
 
-// An offer that was neither drawn nor declined. It is moved and never copied.
+// An offer that was neither drawn nor declined. It is moved and never copied. As it is not `Drop`,
+// nobody can let it go: a program that does is refused before it runs.
 pub struct OfferSlip {
     vault: u16,
     serial: u32,
-}
-
-// Nothing meets what this requires: a slip that is let go is refused before the program runs.
-impl Drop for OfferSlip {
-    fn drop(self)
-        requires { ⊥ }
-    {
-        let OfferSlip {
-            vault: _,
-            serial: _,
-        } = self;
-    }
 }
 
 impl OfferSlip {
