@@ -1,4 +1,4 @@
-use Rattle.std.proofs.Common.{vec_items, sym, arith}
+use Rattle.std.proofs.Common.{vec_items, sym, arith, rules}
 use Rattle.register.proofs.Places.{placed_some, placed_zero, placed_past}
 use Rattle.register.proofs.record_list.RecordListSource.at.Goals as goal
 use Rattle.register.proofs.record_list.RecordListSource.at.Goals.{then-place-eq0-via-then-place-eq0, then-place-eq0-via-else-place-eq0+then-place-len}
@@ -10,4 +10,4 @@ returns-then-place-eq0 c = elim c.then-place-eq0.branch [
 ]
 
 pub returns : goal.returns
-returns c = sym (placed_some _ _ _ _ c.args.self.now.records.ok.0 c.if-place-eq0.false (omega arith) c.index.ensures)
+returns c = sym (placed_some _ _ _ _ c.args.self.now.records.ok.0 c.if-place-eq0.false (omega arith) (search rules))
