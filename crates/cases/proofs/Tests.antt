@@ -8,7 +8,13 @@ use Rattle.model.specs.Clauses.{Every, AnyOf, IfNegated, HasNegated}
 abbrev pub Settles : Bool → Type 0 → Type 0
 Settles b P = (T b → P) × (P → T b)
 
--- a test's second part is computed only where the first asks for it: so tests are joined by `elim`
+-- `and` and `or` compute their second argument only where the first asks for it
+abbrev pub and : Bool → Bool → Bool
+and a b = elim a [ true ↦ b | false ↦ false ]
+
+abbrev pub or : Bool → Bool → Bool
+or a b = elim a [ true ↦ true | false ↦ b ]
+
 pub and_decides : (a b : Bool) {A B : Type 0} → Settles a A → Settles b B → Settles (elim a [ true ↦ b | false ↦ false ]) (A × B)
 and_decides true b x y = (λ t. (x.0 tt, y.0 t), λ h. y.1 h.1)
 and_decides false b x y = (λ t. absurd t, λ h. x.1 h.0)

@@ -11,28 +11,28 @@ use Rattle.model.proofs.Places.{same_place}
 use Rattle.history.specs.Events.{Call, publish, withdraw, certify, adopt, offer, draw, decline, hand_back, asked}
 use Rattle.history.specs.Law.{InRange}
 
-abbrev numbers_of_lem : Call → ℕ × ℕ × ℕ
-numbers_of_lem (publish c) = (0, 0, 0)
-numbers_of_lem (withdraw p) = (0, 0, 0)
-numbers_of_lem (certify b) = (0, 0, 0)
-numbers_of_lem (adopt t) = (0, 0, 0)
-numbers_of_lem (offer a r d) = (a, r, d)
-numbers_of_lem (draw s) = (0, 0, 0)
-numbers_of_lem (decline s) = (0, 0, 0)
-numbers_of_lem (hand_back s) = (0, 0, 0)
+abbrev numbers_of : Call → ℕ × ℕ × ℕ
+numbers_of (publish c) = (0, 0, 0)
+numbers_of (withdraw p) = (0, 0, 0)
+numbers_of (certify b) = (0, 0, 0)
+numbers_of (adopt t) = (0, 0, 0)
+numbers_of (offer a r d) = (a, r, d)
+numbers_of (draw s) = (0, 0, 0)
+numbers_of (decline s) = (0, 0, 0)
+numbers_of (hand_back s) = (0, 0, 0)
 
 -- memberships of the same numbers are the same
 same-membership : (m n : Membership) → m.role.owner.number ≡ n.role.owner.number → m.role.name.number ≡ n.role.name.number → m.member.number ≡ n.member.number → m ≡ n
 same-membership m n a r d = same_place m n (omega (arith, a, r, d))
 
 pub same_asked : (m n : Membership) → asked m ≡ asked n → m ≡ n
-same_asked m n q = same-membership m n (ap (λ (c : Call). (numbers_of_lem c).0) q) (ap (λ (c : Call). (numbers_of_lem c).1) q) (ap (λ (c : Call). (numbers_of_lem c).2) q)
+same_asked m n q = same-membership m n (ap (λ (c : Call). (numbers_of c).0) q) (ap (λ (c : Call). (numbers_of c).1) q) (ap (λ (c : Call). (numbers_of c).2) q)
 
 pub in_range : (a r d : ℕ) (m : Membership) → asked m ≡ offer a r d → InRange a r d
 in_range a r d m q =
-    let x : m.role.owner.number ≡ a = ap (λ (c : Call). (numbers_of_lem c).0) q in
-    let y : m.role.name.number ≡ r = ap (λ (c : Call). (numbers_of_lem c).1) q in
-    let z : m.member.number ≡ d = ap (λ (c : Call). (numbers_of_lem c).2) q in (
+    let x : m.role.owner.number ≡ a = ap (λ (c : Call). (numbers_of c).0) q in
+    let y : m.role.name.number ≡ r = ap (λ (c : Call). (numbers_of c).1) q in
+    let z : m.member.number ≡ d = ap (λ (c : Call). (numbers_of c).2) q in (
       (omega (arith, x, m.role.owner.low), omega (arith, x, m.role.owner.high)),
       (omega (arith, y, m.role.name.low), omega (arith, y, m.role.name.high)),
       (omega (arith, z, m.member.low), omega (arith, z, m.member.high)),

@@ -14,7 +14,14 @@ behind_cons : {X : Type 0} (us : List X) (x : X) (r : Result (List X) Named) →
 behind_cons {X} us x (Ok xs) = ap (λ (t : List X). Ok t) (sym (append_assoc us (x ∷ []) xs))
 behind_cons us x (Err e) = refl
 
+behind_none : {X : Type 0} (r : Result (List X) Named) → r ≡ behind [] r
+behind_none (Ok xs) = refl
+behind_none (Err e) = refl
+
 module _ {X : Type 0} (n : ℕ) (f : ℕ → Result X Named) where
+  pub collect_none : collected n f 0 ≡ behind [] (collected (n - 0) f 0)
+  collect_none = ap (λ (m : ℕ). collected m f 0) (omega arith) ∙ behind_none (collected (n - 0) f 0)
+
   module _ (k : ℕ) (us : List X) (r : Result (List X) Named) (h : k < n) (q : r ≡ behind us (collected (n - k) f k)) where
     step : r ≡ behind us (on_ok (f k) (λ x. on_ok (collected (n - (k + 1)) f (k + 1)) (λ xs. Ok (x ∷ xs))))
     unfolding collected

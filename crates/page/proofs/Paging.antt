@@ -3,7 +3,7 @@ use Rattle.std.proofs.Common.{◌≡◌, ℕ, zero, suc, ◌+◌, ◌-◌, ◌*�
 use borrow.Rule.Slice.PartMut.{put_mid}
 use Rattle.std.proofs.lemmas.List.{take_all, take_at, append-nil, length-take-le}
 use Rattle.std.proofs.lemmas.Option.{slice_get_past}
-use Rattle.std.proofs.lemmas.Bool.{cases_lt, cond-true, cond-false, le-ltb, eq-eqb, ne_eqb, false≢true}
+use Rattle.std.proofs.lemmas.Bool.{cases_lt, cond-true, cond-false, le-ltb, lt-ltb, eq-eqb, ne_eqb, false≢true}
 use Rattle.std.specs.Result.{result_ok}
 use Rattle.std.specs.List.{slice_get}
 use Rattle.credential.specs.declared.credentials.Credential.{Credential}
@@ -69,10 +69,17 @@ pub as_option : (r : Result Credential Refusal) (c : Credential) → answered r 
 as_option (Ok x) c e = cc
 as_option (Err d) c e = never _ c e
 
--- a test that refused
+-- a test that passed, or that refused
+passed : (r : Result (List Credential) Named) → ◌≡◌ {A = Result (Unit {0}) Named} (Ok tt) (whether r) → is_ok r ≡ true
+passed (Ok cs) e = refl
+passed (Err d) e = never d tt (sym e)
+
 refusal_is : (r : Result (List Credential) Named) (d : Named) → Err d ≡ whether r → r ≡ Err d
 refusal_is (Ok cs) d e = never d tt e
 refusal_is (Err f) d e = let q : d ≡ f = cc in ap (λ (x : Named). Err x) (sym q)
+
+pub test_passed : (bytes : List ℕ) → ◌≡◌ {A = Result (Unit {0}) Named} (Ok tt) (whether (read_page bytes)) → (is_ok (read_page bytes) ≡ true) × (Ok (credentials_of bytes) ≡ read_page bytes)
+test_passed bytes e = let h = passed (read_page bytes) e in (h, sym (ok_is (read_page bytes) h))
 
 pub test_refused : (bytes : List ℕ) (d : Named) → Err d ≡ whether (read_page bytes) → (Err d ≡ read_page bytes) × ([] ≡ credentials_of bytes)
 test_refused bytes d e = let q = refusal_is (read_page bytes) d e in (sym q, ap list_of (sym q))
@@ -138,6 +145,9 @@ never_absent cs i h e = there cs i h (sym (placed_at cs i) ∙ e)
     there (c ∷ cs) (suc k) h e = there cs k (le_of_suc-le-suc h) e
 
 module _ (cs : List Credential) (out : List ℕ) where
+  pub too_short : length out < 20 * length cs → ltb (length out) (20 * length cs) ≡ true
+  too_short h = lt-ltb (length out) (20 * length cs) h
+
   pub long_enough : 20 * length cs ≤ length out → ltb (length out) (20 * length cs) ≡ false
   long_enough h = le-ltb (length out) (20 * length cs) h
 
