@@ -2,11 +2,9 @@
 use Rattle.std.specs.Prelude.{◌≡◌, ℕ, List, [], Ok, Err, vec_items, Result}
 use Rattle.credential.specs.declared.credentials.Credential.{Credential}
 use Rattle.credential.specs.declared.memberships.Membership.{Membership}
-use Rattle.credential.specs.declared.refusals.Refusal.{Refusal}
 use Rattle.credential.specs.Refusals.{Named, named}
 use Rattle.model.specs.Tables.{Table}
 use Rattle.history.specs.Events.{Kind, Making, Slip, Call, Event, publish, withdraw, certify, adopt, offer, draw, decline, hand_back, published, withdrawn, certified, adopted, offered, drawn, declined, handed_back, refused, asked}
-use Rattle.history.specs.Theorems.{membership_of}
 use Rattle.history.specs.Law.{Due}
 use Rattle.history.specs.Contents.{Entry, Contents, Keeps}
 use Rattle.history.specs.Steps.{After, seen, Stepped}

@@ -1,12 +1,11 @@
 -- The balance of figures and book outlasts each call.
-use Rattle.std.proofs.Common.{◌≡◌, ℕ, suc, ◌+◌, ◌-◌, ◌<◌, ◌≤◌, Bool, true, false, eqb, List, length, get_or, set, vec_items, sym, refl, ap, ◌∙◌, arith}
+use Rattle.std.proofs.Common.{◌≡◌, ℕ, suc, ◌+◌, ◌-◌, ◌≤◌, Bool, true, false, eqb, List, length, get_or, set, vec_items, ap, ◌∙◌, arith}
 use Rattle.std.proofs.lemmas.List.{length-map, length-set}
-use Rattle.std.proofs.lemmas.Bool.{eq-eqb}
 use Rattle.credential.specs.declared.memberships.Membership.{Membership}
 use Rattle.credential.specs.declared.numbers.RoleName.{RoleName}
 use Rattle.history.specs.Words.{total, one_if, HasItemAt, Lease, for}
 use Rattle.history.specs.Contents.{Entry, is_free, is_offered, is_held, opened, in_book, figure, one_more}
-use Rattle.history.proofs.Sums.{total-set, total-at}
+use Rattle.history.proofs.Sums.{total-set}
 use Rattle.history.proofs.Keeping.{figure_more}
 use Rattle.vault.specs.declared.book.Book.{Book}
 use Rattle.vault.specs.declared.book.Turn.{Turn}

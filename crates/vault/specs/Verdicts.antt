@@ -1,5 +1,5 @@
 -- The verdicts that a vault keeps.
-use Rattle.std.specs.Prelude.{◌≡◌, ℕ, ◌<◌, Bool, true, false, cond, ◌||◌, List, Ok, Err, Result, ◌==◌, slice_index}
+use Rattle.std.specs.Prelude.{◌≡◌, ℕ, Bool, true, cond, ◌||◌, List, Ok, Err, Result, ◌==◌, slice_index}
 use Rattle.std.proofs.Math.Option.{Option, none, some}
 use Rattle.credential.specs.declared.memberships.Membership.{Membership}
 use Rattle.credential.specs.Memberships.{place}

@@ -1,6 +1,6 @@
 -- What the calls on leases are in a vault's history.
-use Rattle.std.proofs.Common.{◌≡◌, ℕ, suc, ◌+◌, ◌-◌, ◌<◌, ◌≤◌, Bool, true, false, cond, ◌||◌, eqb, ◌⊎◌, List, [], get_or, Ok, Err, Result, sym, refl, ap, ◌∙◌, subst, inl, inr, arith}
-use mathlib.Core.Option.{Option, none, some}
+use Rattle.std.proofs.Common.{◌≡◌, ℕ, ◌<◌, Bool, true, false, ◌||◌, eqb, ◌⊎◌, List, [], get_or, Ok, Err, Result, sym, refl, ap, ◌∙◌, subst, inl, inr, arith}
+use mathlib.Core.Option.{some}
 use Rattle.std.proofs.lemmas.Bool.{eqb-true}
 use Rattle.credential.specs.declared.memberships.Membership.{Membership}
 use Rattle.credential.specs.Memberships.{place}
@@ -9,7 +9,7 @@ use Rattle.model.specs.Tables.{Table, table, verdict}
 use Rattle.history.specs.Events as events
 use Rattle.history.specs.Events.{Slip, Call, Event, call, asked, HasCall}
 use Rattle.history.specs.Words.{Lease}
-use Rattle.history.specs.Law.{Facts, Due, Refuses, Fits, Stands, not_to_draw, not_to_decline, not_to_hand_back, no_certificate, is_false, is_undefined, book_full, all_given}
+use Rattle.history.specs.Law.{Due, Refuses, Fits, not_to_draw, not_to_decline, not_to_hand_back, no_certificate, is_false, is_undefined, book_full, all_given}
 use Rattle.history.specs.Contents.{Contents, Entry, is_offered, is_held}
 use Rattle.history.specs.Steps.{rebooked, After, seen, RecordOf, certificate_of}
 use Rattle.history.proofs.Asked.{in_range}

@@ -1,6 +1,6 @@
 -- What certifying and adopting are in a vault's history, and what is kept of a certificate.
-use Rattle.std.proofs.Common.{◌≡◌, ℕ, ◌≤◌, Bool, true, false, ◌||◌, eqb, ◌⊎◌, List, get_or, Ok, Err, Result, refl, ap, ◌∙◌, inl, inr}
-use mathlib.Core.Option.{Option, some}
+use Rattle.std.proofs.Common.{◌≡◌, ℕ, Bool, true, false, ◌||◌, eqb, ◌⊎◌, List, get_or, Ok, Err, refl, ap, ◌∙◌, inl, inr}
+use mathlib.Core.Option.{some}
 use Rattle.std.proofs.lemmas.Bool.{eq-eqb}
 use Rattle.credential.specs.declared.memberships.Membership.{Membership}
 use Rattle.credential.specs.Memberships.{place}

@@ -1,4 +1,4 @@
-use Rattle.std.proofs.Common.{refl, arith}
+use Rattle.std.proofs.Common.{arith}
 use Rattle.history.specs.Contents.{is_offered}
 use Rattle.vault.specs.declared.book.Turn.TheVariants.{Draw}
 use Rattle.vault.specs.Books.{entries}
@@ -10,12 +10,12 @@ use Rattle.vault.proofs.ledger.Ledger.draw.Goals as goal
 pub turn-turned-requires : goal.turn-turned-requires
 turn-turned-requires c = omega (arith, c.in-Some.ensures.lease.0.0, full_book c.args.self.now.book)
 
-pub invariant-of-self : goal.invariant-of-self
-invariant-of-self c =
+pub invariant_of-self : goal.invariant_of-self
+invariant_of-self c =
     let x = lease c.in-Some.found.1 in
     let h = c.in-Some.ensures.lease.0 in
     let q = turned-there (entries c.args.self.now.book) (entries c.turn-turned.new.self) c.in-Some.found.0 (is_offered x) Draw h c.turn-turned.ensures.after in
-    (c.args.self.now.few, (balanced_draw _ _ _ _ _ _ _ c.args.self.now.balanced x h q, tt))
+    record { few = c.args.self.now.few; balanced = balanced_draw _ _ _ _ _ _ _ c.args.self.now.balanced x h q }
 
 pub returns : goal.returns
 returns c =

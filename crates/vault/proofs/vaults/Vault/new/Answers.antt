@@ -1,7 +1,7 @@
-use Rattle.std.proofs.Common.{◌≡◌, ◌≤◌, sym, refl, ◌∙◌, subst, arith}
+use Rattle.std.proofs.Common.{sym, refl, subst, arith}
 use mathlib.Core.Option.{none}
 use Rattle.history.specs.Events.{Making}
-use Rattle.history.specs.Contents.{Contents, Keeps}
+use Rattle.history.specs.Contents.{Keeps}
 use Rattle.history.proofs.Keeping.{making_keeps}
 use Rattle.vault.proofs.vaults.Vault.new.Goals as goal
 
@@ -18,5 +18,5 @@ returns g c =
       most_room = omega (arith, most.value, most.few);
       fits = most.within;
     } in
-    let e = c.in-ok-ledger.ensures in
+    let e = c.in_ok-ledger.ensures in
     (k, refl, refl, refl, refl, subst (Keeps k _) (λ j. record { kind = k.kind; number = k.vault; capacity = k.capacity; list = k.list; kept = none; figures = (sym e j).figures; book = (sym e j).book }) (making_keeps k))

@@ -9,6 +9,6 @@ pub returns : goal.returns
 returns g c =
     let q = same-statement units (viewed g.K.VaultKind.kind g.R.Source.list g.R.Register.limit c.args.self.now) c.tallies-tallies.result c.tallies-tallies.ensures in
     record {
-      answers = c.write-statement.ensures.answers ∙ ap (λ (text : List ℕ). statement_answer text c.args.out.now) q;
-      after = c.write-statement.ensures.after ∙ ap (λ (text : List ℕ). statement_after text c.args.out.now) q;
+      answers = c.write_statement.ensures.answers ∙ ap (λ (text : List ℕ). statement_answer text c.args.out.now) q;
+      after = c.write_statement.ensures.after ∙ ap (λ (text : List ℕ). statement_after text c.args.out.now) q;
     }

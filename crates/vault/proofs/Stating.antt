@@ -1,5 +1,5 @@
 -- The statement of the tallies is that of the ledger; and an offer by numbers that are out of range.
-use Rattle.std.proofs.Common.{◌≡◌, ℕ, ◌+◌, ◌-◌, ◌<◌, ◌≤◌, List, map, length, get_or, Ok, Err, Result, sym, refl, ap, ◌∙◌, subst, arith}
+use Rattle.std.proofs.Common.{◌≡◌, ℕ, ◌+◌, ◌-◌, ◌<◌, List, map, length, get_or, Ok, Err, Result, sym, refl, ap, ◌∙◌, subst, arith}
 use Rattle.std.proofs.lemmas.List.{get_or-map}
 use Rattle.credential.specs.declared.memberships.Membership.{Membership}
 use Rattle.credential.specs.Refusals.{Named}
@@ -13,7 +13,6 @@ use Rattle.history.proofs.Asked.{numbers_tell}
 use Rattle.history.proofs.Stating.{Agree, stated-same}
 use Rattle.vault.specs.declared.statement.Tally.{Tally}
 use Rattle.vault.specs.Statements.{statement_of, givens, declineds, handed_backs, opens}
-use Rattle.vault.specs.declared.slips.offers.OfferSlip.{OfferSlip}
 use Rattle.vault.specs.Ledgers.{AllTallied}
 use Rattle.vault.specs.Vaults.{Happened, OfferedByNumbers}
 use Rattle.vault.proofs.Happening.{happened}

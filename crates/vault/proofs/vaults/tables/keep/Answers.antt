@@ -4,5 +4,5 @@ use Rattle.vault.proofs.vaults.tables.keep.Goals as goal
 
 pub returns : goal.returns
 returns c =
-    let same : length c.copy-from-slice.new.self ≡ vec_len c.args.kept.now = search rules in
-    record { items = take_at c.copy-from-slice.new.self _ _ same ∙ c.copy-from-slice.ensures.after; len = refl }
+    let same : length c.copy_from_slice.new.self ≡ vec_len c.args.kept.now = search rules in
+    record { items = take_at c.copy_from_slice.new.self _ _ same ∙ c.copy_from_slice.ensures.after; len = refl }

@@ -11,7 +11,7 @@ ghost use Rattle.vault.specs.Vaults.{viewed, Happened, offer_event, OfferedByNum
 
 use crate::kinds::VaultKind;
 use crate::slips::{LeaseSlip, OfferSlip, Returned};
-use crate::statement::write_statement;
+use crate::statement::writing::write_statement;
 use crate::vaults::Vault;
 use credential::{Entity, Membership, Refusal, Role, RoleName};
 use register::registers::Register;
