@@ -8,7 +8,7 @@ ghost use Rattle.register.specs.Registers.{admitted, published, located, withdra
 use credential::{Credential, Refusal, Source};
 
 // A source into which credentials are published and from which they are withdrawn, up to the capacity of its kind.
-// A clause cannot name the constant, so `limit` stands in for it; `most` answers the constant and promises that it is the limit.
+// Clauses name the constant by `limit`; `most` answers the constant and promises that it is the limit.
 pub trait Register: Source {
     const CAPACITY: usize;
 
