@@ -1,6 +1,7 @@
 -- `==` decides which entities, role names, roles and credentials are equal.
-use Rattle.std.proofs.Common.{◌≡◌, ℕ, zero, suc, Bool, true, false, ◌&&◌, Some, None, Ok, Decides, Option, Result, refl, sym, ap, ◌∙◌}
+use Rattle.std.proofs.Common.{◌≡◌, ℕ, zero, suc, Bool, Some, None, Ok, Decides, Option, Result, refl, sym, ap, ◌∙◌}
 use Rattle.std.proofs.Math.Bool.{true≢false}
+use Rattle.std.proofs.lemmas.Bool.Decides.{Decides-and, Decides-like}
 use Rattle.std.proofs.lemmas.Slice.Eq.{slice_eq-Decides}
 use Rattle.std.specs.Prelude.{nat_eq}
 use Rattle.std.specs.Cmp.Lexicographic.{pointwise}
@@ -19,39 +20,34 @@ use Rattle.credential.specs.Equality.{entity_eq, role_name_eq, role_eq, credenti
 use Rattle.credential.proofs.Ranges.{entity_path, role_name_path}
 use Rattle.credential.proofs.Building.{made_of_fields}
 
-both : (a b : Bool) {P Q : Type 0} → Decides a P → Decides b Q → Decides (a && b) (P × Q)
-both true b p q = (λ e. (p.0 refl, q.0 e), λ h. q.1 h.1)
-both false b p q = (λ e. absurd (true≢false (sym e)), λ h. absurd (true≢false (sym (p.1 h.0))))
-
-same_as : (a : Bool) {P Q : Type 0} → Decides a P → (P → Q) → (Q → P) → Decides a Q
-same_as a d f g = (λ e. f (d.0 e), λ q. d.1 (g q))
-
 pub entity_eq-Decides : (a b : Entity) → Decides (entity_eq a b) (a ≡ b)
-entity_eq-Decides a b = same_as (entity_eq a b) (unsigned_Decides a.number b.number) (entity_path a b) (ap (λ (x : Entity). x.number))
+entity_eq-Decides a b = Decides-like (entity_eq a b) (entity_path a b) (ap (λ (x : Entity). x.number)) (unsigned_Decides a.number b.number)
 
 pub role_name_eq-Decides : (a b : RoleName) → Decides (role_name_eq a b) (a ≡ b)
-role_name_eq-Decides a b = same_as (role_name_eq a b) (unsigned_Decides a.number b.number) (role_name_path a b) (ap (λ (x : RoleName). x.number))
+role_name_eq-Decides a b = Decides-like (role_name_eq a b) (role_name_path a b) (ap (λ (x : RoleName). x.number)) (unsigned_Decides a.number b.number)
 
 pub role_eq-Decides : (a b : Role) → Decides (role_eq a b) (a ≡ b)
 role_eq-Decides a b =
-    same_as (role_eq a b) (both (entity_eq a.owner b.owner) (role_name_eq a.name b.name) (entity_eq-Decides a.owner b.owner) (role_name_eq-Decides a.name b.name))
+    Decides-like (role_eq a b)
     (λ h. λ i. record { owner = h.0 i; name = h.1 i })
     (λ p. (ap (λ (x : Role). x.owner) p, ap (λ (x : Role). x.name) p))
+    (Decides-and (entity_eq a.owner b.owner) (role_name_eq a.name b.name) (entity_eq-Decides a.owner b.owner) (role_name_eq-Decides a.name b.name))
 
 number_eq-Decides : (a b : Option ℕ) → Decides (option_eq nat_eq a b) (a ≡ b)
 number_eq-Decides None None = (λ e. refl, λ p. refl)
 number_eq-Decides None (Some n) = (λ e. absurd (true≢false (sym e)), λ p. cc)
 number_eq-Decides (Some m) None = (λ e. absurd (true≢false (sym e)), λ p. cc)
-number_eq-Decides (Some m) (Some n) = same_as (nat_eq m n) (unsigned_Decides m n) (ap (λ (x : ℕ). Some x)) (λ p. cc)
+number_eq-Decides (Some m) (Some n) = Decides-like (nat_eq m n) (ap (λ (x : ℕ). Some x)) (λ p. cc) (unsigned_Decides m n)
 
-letter_at : ℕ → Letter
+-- the letter of a row of the table of marks
+pub letter_at : ℕ → Letter
 letter_at zero = Member
 letter_at (suc zero) = Inclusion
 letter_at (suc (suc zero)) = Linked
 letter_at (suc (suc (suc zero))) = Intersection
 letter_at (suc (suc (suc (suc n)))) = Exclusion
 
-letter_back : (l : Letter) → letter_at (row_of l) ≡ l
+pub letter_back : (l : Letter) → letter_at (row_of l) ≡ l
 unfolding letter_at
 letter_back Member = refl
 letter_back Inclusion = refl
@@ -69,8 +65,7 @@ credential_path c d h =
 pub credential_eq-Decides : (c d : Credential) → Decides (credential_eq c d) (c ≡ d)
 credential_eq-Decides c d =
     let fs : Bool = pointwise (option_eq nat_eq) (fields_of c) (fields_of d) in
-    same_as (credential_eq c d)
-    (both (nat_eq (row_of (letter_of c)) (row_of (letter_of d))) fs (unsigned_Decides (row_of (letter_of c)) (row_of (letter_of d)))
-    (slice_eq-Decides number_eq-Decides (fields_of c) (fields_of d) fs refl))
-    (credential_path c d)
+    Decides-like (credential_eq c d) (credential_path c d)
     (λ p. (ap (λ (x : Credential). row_of (letter_of x)) p, ap fields_of p))
+    (Decides-and (nat_eq (row_of (letter_of c)) (row_of (letter_of d))) fs (unsigned_Decides (row_of (letter_of c)) (row_of (letter_of d)))
+    (slice_eq-Decides number_eq-Decides (fields_of c) (fields_of d) fs refl))

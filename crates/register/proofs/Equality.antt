@@ -4,28 +4,12 @@ use Rattle.std.specs.List.{ContainsAt as Has}
 use Rattle.std.proofs.lemmas.Slice.Eq.{bytes_eq-Decides}
 use Rattle.std.proofs.lemmas.Bool.Decides.{Decides-by_or, Decides-like}
 use Rattle.credential.specs.declared.letters.Letter.{Letter}
-use Rattle.credential.specs.declared.letters.Letter.TheVariants.{Member, Inclusion, Linked, Intersection, Exclusion}
 use Rattle.credential.specs.declared.credentials.Credential.{Credential}
 use Rattle.credential.specs.Refusals.{Named, refused}
-use Rattle.credential.specs.Letters.{row_of}
 use Rattle.credential.specs.Credentials.{letter_of, fields_of, credential_of}
 use Rattle.credential.proofs.Building.{made_of_fields}
+use Rattle.credential.proofs.Equalities.{letter_at, letter_back}
 use Rattle.register.specs.Standing.{number_of, numbers_of, same, stands}
-
-letter_at : ℕ → Letter
-letter_at zero = Member
-letter_at (suc zero) = Inclusion
-letter_at (suc (suc zero)) = Linked
-letter_at (suc (suc (suc zero))) = Intersection
-letter_at (suc (suc (suc (suc n)))) = Exclusion
-
-letter_back : (l : Letter) → letter_at (row_of l) ≡ l
-unfolding letter_at
-letter_back Member = refl
-letter_back Inclusion = refl
-letter_back Linked = refl
-letter_back Intersection = refl
-letter_back Exclusion = refl
 
 field_at : ℕ → Option ℕ
 field_at zero = None
