@@ -9,32 +9,30 @@ ghost use Rattle.boundary.specs.Codes.{code_of, PageEvaluated, PageChecked, Page
 use checker::check;
 use credential::{Refusal, Source};
 use evaluator::evaluate;
-use page::pages::calls::Reading;
 use page::{Page, write_page};
 
-// A refusal as a number above every number of rounds: 65,536 times its own, and the place of the entry that it names, or 0.
+// A refusal as a number, since C has no enum with values: above every number of rounds: 65,536 times its own, and the place of the entry that it names, or 0.
 fn code(refusal: Refusal) -> u32
     ensures { result ≡ code_of (named refusal) }
 {
-    let place = match refusal.entry() {
-        Some(place) => place % 65536,
-        None => 0,
-    };
+    let place = refusal.entry().map_or(0, |place| place % 65536);
     65536 * refusal.number() as u32 + place as u32
 }
+
+// Each call matches on the page and on what is asked of it: a function with `?` under each would need a contract of its
+// own, which would say the same once more.
 
 // Fills the tables with the least certificate of the page, and answers the rounds, or the refusal's code.
 #[unsafe(no_mangle)]
 pub extern "C" fn walumiren_evaluate(page: &[u8], verdicts: &mut [u8], numbers: &mut [u16]) -> u32
     ensures { PageEvaluated page.now (table verdicts.old numbers.old) result (table verdicts.new numbers.new) }
 {
-    let Reading { page, refusal } = Page::read(page);
-    match refusal {
-        Some(refusal) => code(refusal),
-        None => match evaluate(&page, verdicts, numbers) {
+    match Page::read(page) {
+        Ok(page) => match evaluate(&page, verdicts, numbers) {
             Ok(rounds) => rounds as u32,
             Err(refusal) => code(refusal),
         },
+        Err(refusal) => code(refusal),
     }
 }
 
@@ -43,13 +41,12 @@ pub extern "C" fn walumiren_evaluate(page: &[u8], verdicts: &mut [u8], numbers: 
 pub extern "C" fn walumiren_check(page: &[u8], verdicts: &[u8], numbers: &[u16]) -> u32
     ensures { PageChecked page.now (table verdicts.now numbers.now) result }
 {
-    let Reading { page, refusal } = Page::read(page);
-    match refusal {
-        Some(refusal) => code(refusal),
-        None => match check(&page, verdicts, numbers) {
+    match Page::read(page) {
+        Ok(page) => match check(&page, verdicts, numbers) {
             Ok(()) => 0,
             Err(refusal) => code(refusal),
         },
+        Err(refusal) => code(refusal),
     }
 }
 
@@ -58,10 +55,9 @@ pub extern "C" fn walumiren_check(page: &[u8], verdicts: &[u8], numbers: &[u16])
 pub extern "C" fn walumiren_read_page(page: &[u8]) -> u32
     ensures { PageRead page.now result }
 {
-    let Reading { page, refusal } = Page::read(page);
-    match refusal {
-        Some(refusal) => code(refusal),
-        None => page.count() as u32,
+    match Page::read(page) {
+        Ok(page) => page.count() as u32,
+        Err(refusal) => code(refusal),
     }
 }
 
@@ -70,12 +66,11 @@ pub extern "C" fn walumiren_read_page(page: &[u8]) -> u32
 pub extern "C" fn walumiren_copy_page(page: &[u8], out: &mut [u8]) -> u32
     ensures { PageCopied page.now out.old result out.new }
 {
-    let Reading { page, refusal } = Page::read(page);
-    match refusal {
-        Some(refusal) => code(refusal),
-        None => match write_page(&page, out) {
+    match Page::read(page) {
+        Ok(page) => match write_page(&page, out) {
             Ok(written) => written as u32,
             Err(refusal) => code(refusal),
         },
+        Err(refusal) => code(refusal),
     }
 }

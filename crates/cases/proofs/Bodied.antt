@@ -2,21 +2,20 @@
 use Rattle.std.proofs.Common.{◌≡◌, ℕ, zero, suc, ◌≤◌, Bool, true, false, T, eqb, ◌⊎◌, List, [], ◌∷◌, ◌++◌, sym, refl, ap, subst, inl, inr, le_refl, arith}
 use mathlib.Core.Option.{none, some}
 use native.Mathlib.Nat.{le_of_suc-le}
-use Rattle.credential.specs.declared.numbers.Entity.{Entity}
-use Rattle.credential.specs.declared.numbers.RoleName.{RoleName}
+use Rattle.credential.specs.Numbers.{Entity, RoleName}
 use Rattle.credential.specs.declared.roles.Role.{Role}
 use Rattle.credential.specs.declared.credentials.Credential.{Credential}
 use Rattle.credential.specs.declared.credentials.Credential.TheVariants.{Member, Inclusion, Linked, Intersection, Exclusion}
 use Rattle.credential.specs.declared.memberships.Membership.{Membership}
 use Rattle.model.specs.Clauses.{Body, of, head, Gives, Clause}
-use Rattle.credential.proofs.Ranges.{entity_path, role_name_path}
+use Rattle.credential.proofs.Ranges.{number_path}
 use Rattle.cases.proofs.Tests.{Settles, and_decides, eq_decides, by_iff}
 
 abbrev pub same_entity : Entity → Entity → Bool
 same_entity a b = eqb a.number b.number
 
 pub same_entity_decides : (a b : Entity) → Settles (same_entity a b) (a ≡ b)
-same_entity_decides a b = by_iff (same_entity a b) (eq_decides a.number b.number) (entity_path a b) (λ e. ap (λ x. x.number) e)
+same_entity_decides a b = by_iff (same_entity a b) (eq_decides a.number b.number) (number_path a b) (λ e. ap (λ x. x.number) e)
 
 abbrev pub same_role : Role → Role → Bool
 same_role a b = let n = eqb a.name.number b.name.number in elim (eqb a.owner.number b.owner.number) [ true ↦ n | false ↦ false ]
@@ -30,7 +29,7 @@ same_role_decides a b =
     (eqb a.name.number b.name.number)
     (eq_decides a.owner.number b.owner.number)
     (eq_decides a.name.number b.name.number))
-    (λ h. λ i. record { owner = entity_path a.owner b.owner h.0 i; name = role_name_path a.name b.name h.1 i })
+    (λ h. λ i. record { owner = number_path a.owner b.owner h.0 i; name = number_path a.name b.name h.1 i })
     (λ e. (ap (λ x. x.owner.number) e, ap (λ x. x.name.number) e))
 
 -- an element of a list
@@ -83,7 +82,7 @@ in_entities_to zero h y l = let low : 1 ≤ y.number = y.low in absurd (omega ar
 in_entities_to (suc k) h y l = go (λ b. in_entities_to k (down h) y b) (eqb y.number (suc k)) (eq_decides y.number (suc k))
   where
     go : (y.number ≤ k → In y (entities_to k (down h))) → (b : Bool) → Settles b (y.number ≡ suc k) → In y (entities_to (suc k) h)
-    go ih true d = inl (entity_path y (record { number = suc k; low = one_up k; high = h }) (d.0 tt))
+    go ih true d = inl (number_path y (record { number = suc k; low = one_up k; high = h }) (d.0 tt))
     go ih false d = inr (ih (let ne : ¬ (y.number ≡ suc k) = d.1 in omega arith))
 
 pub in_entities : (y : Entity) → In y entities

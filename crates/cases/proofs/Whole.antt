@@ -1,7 +1,7 @@
 -- A whole table from a few rows: what a test at each membership shows of it.
 use Rattle.std.proofs.Common.{◌≡◌, ℕ, zero, suc, ◌+◌, ◌<◌, ◌≤◌, Bool, true, false, not, T, eqb, leb, ◌⊎◌, List, [], ◌∷◌, length, get_or, sym, refl, ap, ◌∙◌, subst, inl, inr, le_refl, le_of_suc-le-suc, not-suc-le-zero, add-zero, add-suc, suc-add, zero-add, arith}
 use native.Mathlib.Nat.{le_of_suc-le}
-use Rattle.credential.specs.declared.numbers.RoleName.{RoleName}
+use Rattle.credential.specs.Numbers.{RoleName}
 use Rattle.credential.specs.declared.credentials.Credential.{Credential}
 use Rattle.credential.specs.declared.memberships.Membership.{Membership}
 use Rattle.credential.specs.Memberships.{place}
@@ -11,7 +11,7 @@ use Rattle.cases.specs.Sparse.{Row, verdict_in, number_in, listed, whole}
 use Rattle.checker.specs.Checks.{Breaks, Broken}
 use Rattle.cases.proofs.Tests.{Settles, and_decides, or_decides, implies_decides, eq_decides, not_decides, le_decides, by_iff}
 use Rattle.cases.proofs.Bodied.{In, entities, in_entities, one_up}
-use Rattle.credential.proofs.Ranges.{role_name_path}
+use Rattle.credential.proofs.Ranges.{number_path}
 use Rattle.cases.proofs.Rules.{lawful_test, meets_test, first_test, t_test, f_test, no_true_test, u_test, is, lawful_decides, meets_decides, first_decides, t_decides, f_decides, no_true_decides, u_decides}
 use Rattle.model.proofs.Places.{member-at, place_member_at, place-below}
 use Rattle.cases.proofs.Minimal.{least, TFirst, FFirst, UFirst}
@@ -63,7 +63,7 @@ in_names_to zero h y l = let low : 1 ≤ y.number = y.low in absurd (omega arith
 in_names_to (suc k) h y l = go (λ b. in_names_to k (down16 h) y b) (eqb y.number (suc k)) (eq_decides y.number (suc k))
   where
     go : (y.number ≤ k → In y (names_to k (down16 h))) → (b : Bool) → Settles b (y.number ≡ suc k) → In y (names_to (suc k) h)
-    go ih true d = inl (role_name_path y (record { number = suc k; low = one_up k; high = h }) (d.0 tt))
+    go ih true d = inl (number_path y (record { number = suc k; low = one_up k; high = h }) (d.0 tt))
     go ih false d = inr (ih (let ne : ¬ (y.number ≡ suc k) = d.1 in omega arith))
 
 -- a test at each of a list

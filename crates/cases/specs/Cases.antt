@@ -1,8 +1,7 @@
 -- Worked cases: credentials with their least certificate, and tables that are refused.
 use Rattle.std.specs.Prelude.{◌≡◌, ℕ, T, List, [], ◌∷◌, ◌++◌, Ok, Err, codes, nat_le}
 use Rattle.std.proofs.Common.{lit≤}
-use Rattle.credential.specs.declared.numbers.Entity.{Entity}
-use Rattle.credential.specs.declared.numbers.RoleName.{RoleName}
+use Rattle.credential.specs.Numbers.{Entity, RoleName}
 use Rattle.credential.specs.declared.roles.Role.{Role}
 use Rattle.credential.specs.declared.credentials.Credential.{Credential}
 use Rattle.credential.specs.declared.credentials.Credential.TheVariants.{Member, Inclusion, Exclusion}

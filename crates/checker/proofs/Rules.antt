@@ -3,7 +3,7 @@ use Rattle.std.proofs.Common.{◌≡◌, ℕ, ◌+◌, ◌<◌, Bool, true, fals
 use Rattle.std.proofs.lemmas.Bool.{and_from, and_parts, or_left, or_right, or_cases, cases_Bool, cases_eq, both_ways, eq-eqb, ne_eqb, eqb-true, eqb-false, cond-true, cond-false, ltb-true, leb-true, lt-ltb, le-leb, not-true, not-false, not_from_true, not_from_false}
 use Rattle.credential.specs.Memberships.{place}
 use Rattle.credential.specs.Refusals.{Named, refused_entry}
-use Rattle.credential.specs.declared.numbers.RoleName.{RoleName}
+use Rattle.credential.specs.Numbers.{RoleName}
 use Rattle.credential.specs.declared.roles.Role.{Role}
 use Rattle.credential.specs.declared.memberships.Membership.{Membership}
 use Rattle.credential.specs.declared.credentials.Credential.{Credential}
@@ -14,35 +14,31 @@ use Rattle.model.proofs.Any.{linked_bodies}
 use Rattle.model.proofs.Bodies.{every_map, some_map, if_map, has_map}
 use Rattle.model.proofs.Grounds.{clause_passes, passing_clause, clauses_stuck, stuck_clauses}
 use Rattle.model.proofs.Places.{at_place, place-below, same_place}
+use Rattle.checker.specs.declared.literals.Sign.TheVariants.{Positive, Negated}
 use Rattle.checker.specs.declared.wants.Want.{Want}
 use Rattle.checker.specs.declared.wants.Want.TheVariants.{Proved, Unrefuted, AllTrue, Possible}
-use Rattle.checker.specs.Rules.{lawful_at, pos_at, neg_at, serves, asked, entry_refusal}
+use Rattle.checker.specs.Rules.{lawful_at, literal_at, serves, asked, entry_refusal}
 use Rattle.checker.specs.Checks.{Unlawful, Meets, Breaks, Checked, Walked}
 
 pub linked_serves : (w : Want) (n : ℕ) (vs ms : List ℕ) (m : Membership) (H : Role) (S U : RoleName)
     → (eqb H.owner.number m.role.owner.number && eqb H.name.number m.role.name.number) ≡ true
     → serves w n vs ms m (Linked H S U)
-    ≡ any (λ y. pos_at w n vs ms (place_of H.owner.number S.number y) && pos_at w n vs ms (place_of y U.number m.member.number)) everyone
+    ≡ any (λ y. literal_at Positive w n vs ms (place_of m.role.owner.number S.number y) && literal_at Positive w n vs ms (place_of y U.number m.member.number)) everyone
 linked_serves w n vs ms m H S U e =
-    ap (any (passes (pos_at w n vs ms) (neg_at w n vs ms))) (cond-true _ _ _ e) ∙ linked_bodies (pos_at w n vs ms) (neg_at w n vs ms) m.member.number H S U
-
-pub asked-at : (w : Want) (cs : List Credential) (vs ms : List ℕ) (m : Membership) (p : ℕ) → p ≡ place m → any (serves w (get_or ms p 0) vs ms m) cs ≡ asked w cs vs ms m
-unfolding asked
-asked-at w cs vs ms m p e = ap (λ q. any (serves w (get_or ms q 0) vs ms m) cs) e
+    ap (any (passes (literal_at Positive w n vs ms) (literal_at Negated w n vs ms))) (cond-true _ _ _ e)
+    ∙ linked_bodies (literal_at Positive w n vs ms) (literal_at Negated w n vs ms) m.member.number H S U
+    ∙ ap (λ a. any (λ y. literal_at Positive w n vs ms (place_of a S.number y) && literal_at Positive w n vs ms (place_of y U.number m.member.number)) everyone) (eqb-true _ _ (and_parts _ _ e).0)
 
 seventy : (v : ℕ) → v ≡ 70 → eqb v 84 ≡ false
-seventy v e = ne_eqb v 84 (λ (x : v ≡ 84). let z : ◌≡◌ {A = ℕ} 70 84 = sym e ∙ x in absurd (omega arith))
+seventy v e = rw e refl
 
 eighty_five : (v : ℕ) → v ≡ 85 → (eqb v 84 ≡ false) × (eqb v 70 ≡ false)
-eighty_five v e = (
-  ne_eqb v 84 (λ (x : v ≡ 84). let z : ◌≡◌ {A = ℕ} 85 84 = sym e ∙ x in absurd (omega arith)),
-  ne_eqb v 70 (λ (x : v ≡ 70). let z : ◌≡◌ {A = ℕ} 85 70 = sym e ∙ x in absurd (omega arith)),
-)
+eighty_five v e = rw e (refl, refl)
 
 one_of : (v : ℕ) → (v ≡ 84) ⊎ ((v ≡ 70) ⊎ (v ≡ 85)) → (eqb v 84 || (eqb v 70 || eqb v 85)) ≡ true
-one_of v (inl h) = or_left (eqb v 84) _ (eq-eqb v 84 h)
-one_of v (inr (inl h)) = or_right (eqb v 84) _ (or_left (eqb v 70) (eqb v 85) (eq-eqb v 70 h))
-one_of v (inr (inr h)) = or_right (eqb v 84) _ (or_right (eqb v 70) (eqb v 85) (eq-eqb v 85 h))
+one_of v (inl e) = rw e refl
+one_of v (inr (inl e)) = rw e refl
+one_of v (inr (inr e)) = rw e refl
 
 module _ (cs : List Credential) (vs ms : List ℕ) (m : Membership) where
   abbrev t : Table
@@ -51,10 +47,17 @@ module _ (cs : List Credential) (vs ms : List ℕ) (m : Membership) where
   abbrev ask : Want → Bool
   ask w = asked w cs vs ms m
 
+  -- the tests of the literals, at the number of the entry
+  abbrev pos : Want → ℕ → Bool
+  pos w = literal_at Positive w (get_or ms (place m) 0) vs ms
+
+  abbrev neg : Want → ℕ → Bool
+  neg w = literal_at Negated w (get_or ms (place m) 0) vs ms
+
   proved : ask Proved ≡ true → TClause cs t m
   unfolding verdict number asked
   proved e =
-      let r = passing_clause (pos_at Proved (get_or ms (place m) 0) vs ms) (neg_at Proved (get_or ms (place m) 0) vs ms) cs m e in (
+      let r = passing_clause (pos Proved) (neg Proved) cs m e in (
         r.0,
         r.1,
         every_map (λ p h. let x = and_parts _ _ h in (eqb-true _ _ x.0, ltb-true _ _ x.1)) r.0.positive r.2.0,
@@ -64,7 +67,7 @@ module _ (cs : List Credential) (vs ms : List ℕ) (m : Membership) where
   prove : TClause cs t m → ask Proved ≡ true
   unfolding verdict number asked
   prove h =
-      clause_passes (pos_at Proved (get_or ms (place m) 0) vs ms) (neg_at Proved (get_or ms (place m) 0) vs ms) cs m h.0 h.1 (
+      clause_passes (pos Proved) (neg Proved) cs m h.0 h.1 (
         every_map (λ p x. and_from _ _ (eq-eqb _ _ x.0) (lt-ltb _ _ x.1)) h.0.positive h.2,
         if_map (λ p x. and_from _ _ (eq-eqb _ _ x.0) (lt-ltb _ _ x.1)) h.0.negated h.3,
       )
@@ -72,7 +75,7 @@ module _ (cs : List Credential) (vs ms : List ℕ) (m : Membership) where
   refuted : ask Unrefuted ≡ false → FClauses cs t m
   unfolding verdict number asked
   refuted e o cl =
-      elim (clauses_stuck (pos_at Unrefuted (get_or ms (place m) 0) vs ms) (neg_at Unrefuted (get_or ms (place m) 0) vs ms) cs m e o cl) [
+      elim (clauses_stuck (pos Unrefuted) (neg Unrefuted) cs m e o cl) [
         | inl s ↦ inl (some_map (λ p h. let x = and_parts _ _ (not-false _ h) in (eqb-true _ _ x.0, leb-true _ _ x.1)) o.positive s)
         | inr s ↦ inr (has_map (λ p h. let x = and_parts _ _ (not-false _ h) in (eqb-true _ _ x.0, ltb-true _ _ x.1)) o.negated s)
       ]
@@ -80,7 +83,7 @@ module _ (cs : List Credential) (vs ms : List ℕ) (m : Membership) where
   refute : FClauses cs t m → ask Unrefuted ≡ false
   unfolding verdict number asked
   refute h =
-      stuck_clauses (pos_at Unrefuted (get_or ms (place m) 0) vs ms) (neg_at Unrefuted (get_or ms (place m) 0) vs ms) cs m
+      stuck_clauses (pos Unrefuted) (neg Unrefuted) cs m
       (λ o cl. elim (h o cl) [
         | inl s ↦ inl (some_map (λ p x. not_from_true _ (and_from _ _ (eq-eqb _ _ x.0) (le-leb _ _ x.1))) o.positive s)
         | inr s ↦ inr (has_map (λ p x. not_from_true _ (and_from _ _ (eq-eqb _ _ x.0) (lt-ltb _ _ x.1))) o.negated s)
@@ -89,19 +92,19 @@ module _ (cs : List Credential) (vs ms : List ℕ) (m : Membership) where
   no_true : ask AllTrue ≡ false → NoTrueClause cs t m
   unfolding verdict number asked
   no_true e o cl a b =
-      both_ways _ e (clause_passes (pos_at AllTrue (get_or ms (place m) 0) vs ms) (neg_at AllTrue (get_or ms (place m) 0) vs ms) cs m o cl
+      both_ways _ e (clause_passes (pos AllTrue) (neg AllTrue) cs m o cl
       (every_map (λ p x. eq-eqb _ _ x) o.positive a, if_map (λ p x. eq-eqb _ _ x) o.negated b))
 
   a_true : ask AllTrue ≡ true → ¬ (NoTrueClause cs t m)
   unfolding verdict number asked
   a_true e h =
-      let r = passing_clause (pos_at AllTrue (get_or ms (place m) 0) vs ms) (neg_at AllTrue (get_or ms (place m) 0) vs ms) cs m e in
+      let r = passing_clause (pos AllTrue) (neg AllTrue) cs m e in
       h r.0 r.1 (every_map (λ p x. eqb-true _ _ x) r.0.positive r.2.0) (if_map (λ p x. eqb-true _ _ x) r.0.negated r.2.1)
 
   supported : ask Possible ≡ true → UClause cs t m
   unfolding verdict number asked
   supported e =
-      let r = passing_clause (pos_at Possible (get_or ms (place m) 0) vs ms) (neg_at Possible (get_or ms (place m) 0) vs ms) cs m e in (
+      let r = passing_clause (pos Possible) (neg Possible) cs m e in (
         r.0,
         r.1,
         every_map (λ p h. elim (or_cases _ _ h) [ inl x ↦ inl (eqb-true _ _ x) | inr y ↦ let x = and_parts _ _ y in inr (eqb-true _ _ x.0, ltb-true _ _ x.1) ]) r.0.positive r.2.0,
@@ -111,7 +114,7 @@ module _ (cs : List Credential) (vs ms : List ℕ) (m : Membership) where
   support : UClause cs t m → ask Possible ≡ true
   unfolding verdict number asked
   support h =
-      clause_passes (pos_at Possible (get_or ms (place m) 0) vs ms) (neg_at Possible (get_or ms (place m) 0) vs ms) cs m h.0 h.1 (
+      clause_passes (pos Possible) (neg Possible) cs m h.0 h.1 (
         every_map (λ p. elim [ inl x ↦ or_left _ _ (eq-eqb _ _ x) | inr x ↦ or_right _ _ (and_from _ _ (eq-eqb _ _ x.0) (lt-ltb _ _ x.1)) ]) h.0.positive h.2,
         if_map (λ p x. not_from_false _ (ne_eqb _ _ x)) h.0.negated h.3,
       )

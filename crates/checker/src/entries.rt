@@ -1,105 +1,41 @@
-// Whether the entries of a table meet their rules.
-ghost use Rattle.std.specs.Prelude.{◌≡◌, ℕ, ◌<◌, true, false, length, MatchOption};
-ghost use Rattle.credential.specs.Memberships.{place};
+// Whether the entries of tables meet their rules.
+ghost use Rattle.std.specs.Prelude.{◌≡◌};
 ghost use Rattle.credential.specs.Refusals.{answered};
-ghost use Rattle.checker.specs.Rules.{lawful, lawful_at, asked, entry_refusal};
+ghost use Rattle.checker.specs.Rules.{entry_refusal};
 ghost use Rattle.checker.specs.Checks.{Walked};
 
-use crate::literals::credential_serves;
+use crate::questions::Question;
+use crate::tables::Tables;
 use crate::wants::Want;
 use credential::{Credential, Membership, Refusal};
+use model::Verdict;
 
-// One of the three verdicts, and a number from 1 to 16,384.
-fn is_lawful(verdict: u8, number: u16) -> bool
-    ensures { result ≡ lawful verdict number }
-{
-    (verdict == b'T' || verdict == b'F' || verdict == b'U') && 1 <= number && number <= 16384
-}
-
-// The first place whose entry is not lawful.
-pub(crate) fn first_unlawful(verdicts: &[u8], numbers: &[u16]) -> Option<usize>
-    requires { (length verdicts.now ≡ 16384) × (length numbers.now ≡ 16384) }
-    ensures { MatchOption result ((p : ℕ) → p < 16384 → lawful_at verdicts.now numbers.now p ≡ true)
-        (λ q. (q < 16384) × (lawful_at verdicts.now numbers.now q ≡ false)
-        × ((p : ℕ) → p < q → lawful_at verdicts.now numbers.now p ≡ true)) }
-{
-    for p in 0..Membership::COUNT {
-        if !is_lawful(verdicts[p], numbers[p]) {
-            return Some(p);
+impl Tables<'_> {
+    // The entry of the membership meets its rule, or is refused.
+    fn check_entry(self, credentials: &[Credential], m: Membership) -> Result<(), Refusal>
+        ensures { answered result ≡ entry_refusal credentials.now self.entry.verdicts.now self.entry.numbers.now m }
+    {
+        let place = m.place();
+        let passes = |want| Question::new(self, m, want).passes(credentials);
+        match self.entry(m).verdict {
+            Verdict::True if !passes(Want::Proved) => Err(Refusal::TrueUnproved { place }),
+            Verdict::False if passes(Want::Unrefuted) => Err(Refusal::FalseUnrefuted { place }),
+            Verdict::Undefined if passes(Want::AllTrue) => Err(Refusal::UndefinedProved { place }),
+            Verdict::Undefined if !passes(Want::Possible) => {
+                Err(Refusal::UndefinedUnsupported { place })
+            }
+            _ => Ok(()),
         }
     }
-    None
-}
 
-// Some ground clause of the membership passes, at the number of its entry.
-fn ask(
-    want: Want,
-    credentials: &[Credential],
-    verdicts: &[u8],
-    numbers: &[u16],
-    m: Membership,
-) -> bool
-    requires { (length verdicts.now ≡ 16384) × (length numbers.now ≡ 16384) }
-    ensures { result ≡ asked want credentials.now verdicts.now numbers.now m }
-{
-    let n = numbers[m.place()];
-    for credential in credentials {
-        if credential_serves(want, n, verdicts, numbers, m, *credential) {
-            return true;
+    // Every entry meets its rule, or the first by place that does not is refused.
+    pub(crate) fn check_entries(self, credentials: &[Credential]) -> Result<(), Refusal>
+        ensures { Walked (entry_refusal credentials.now self.entry.verdicts.now self.entry.numbers.now) (answered result) }
+    {
+        // A `for`, since a chain of `filter_map(Membership::at)` would pass over a place that has no membership.
+        for index in 0..Membership::COUNT {
+            self.check_entry(credentials, Membership::at(index).unwrap())?;
         }
-    }
-    false
-}
-
-// The entry of the membership meets its rule, or is refused.
-fn check_entry(
-    credentials: &[Credential],
-    verdicts: &[u8],
-    numbers: &[u16],
-    m: Membership,
-) -> Result<(), Refusal>
-    requires { (length verdicts.now ≡ 16384) × (length numbers.now ≡ 16384) }
-    ensures { answered result ≡ entry_refusal credentials.now verdicts.now numbers.now m }
-{
-    let place = m.place();
-    let verdict = verdicts[place];
-    if verdict == b'T' {
-        if ask(Want::Proved, credentials, verdicts, numbers, m) {
-            Ok(())
-        } else {
-            Err(Refusal::TrueUnproved { place })
-        }
-    } else if verdict == b'F' {
-        if ask(Want::Unrefuted, credentials, verdicts, numbers, m) {
-            Err(Refusal::FalseUnrefuted { place })
-        } else {
-            Ok(())
-        }
-    } else if ask(Want::AllTrue, credentials, verdicts, numbers, m) {
-        Err(Refusal::UndefinedProved { place })
-    } else if ask(Want::Possible, credentials, verdicts, numbers, m) {
         Ok(())
-    } else {
-        Err(Refusal::UndefinedUnsupported { place })
     }
-}
-
-// Every entry meets its rule, or the first by place that does not is refused.
-pub(crate) fn check_entries(
-    credentials: &[Credential],
-    verdicts: &[u8],
-    numbers: &[u16],
-) -> Result<(), Refusal>
-    requires { (length verdicts.now ≡ 16384) × (length numbers.now ≡ 16384) }
-    ensures { Walked (entry_refusal credentials.now verdicts.now numbers.now) (answered result) }
-{
-    for index in 0..Membership::COUNT {
-        let Some(m) = Membership::at(index) else {
-            return Ok(());
-        };
-        if let Err(refusal) = check_entry(credentials, verdicts, numbers, m) {
-            return Err(refusal);
-        }
-    }
-    Ok(())
 }

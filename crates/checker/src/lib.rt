@@ -6,15 +6,18 @@ ghost use Rattle.model.specs.Tables.{table};
 ghost use Rattle.model.specs.Theorems.{LawsOfCertificates};
 ghost use Rattle.checker.specs.Checks.{Checked, OneAnswer, AcceptedIsTheModel, CertificatesAccepted, SameAnswer};
 
-use credential::{Credential, Membership, Refusal, Source};
-use entries::{check_entries, first_unlawful};
+use credential::{Credential, Refusal, Source};
 use model::load;
+use tables::Tables;
 
 mod entries;
 mod literals;
+mod questions;
+mod tables;
 mod wants;
 
 // Accepts exactly the certificates of the source's credentials, and else refuses the first place that breaks a rule.
+// The two tables are two slices, as C hands them over.
 pub fn check<S: Source>(source: &S, verdicts: &[u8], numbers: &[u16]) -> Result<(), Refusal>
     ensures says { Checked (S.Source.list source.now) (table verdicts.now numbers.now) (answered result) }
     ensures alone { OneAnswer }
@@ -31,11 +34,6 @@ pub fn check<S: Source>(source: &S, verdicts: &[u8], numbers: &[u16]) -> Result<
 fn check_list(credentials: &[Credential], verdicts: &[u8], numbers: &[u16]) -> Result<(), Refusal>
     ensures { Checked credentials.now (table verdicts.now numbers.now) (answered result) }
 {
-    if verdicts.len() != Membership::COUNT || numbers.len() != Membership::COUNT {
-        return Err(Refusal::WrongLength);
-    }
-    if let Some(place) = first_unlawful(verdicts, numbers) {
-        return Err(Refusal::EntryUnlawful { place });
-    }
-    check_entries(credentials, verdicts, numbers)
+    let tables = Tables::new(verdicts, numbers)?;
+    tables.check_entries(credentials)
 }

@@ -2,8 +2,7 @@
 use Rattle.std.proofs.Common.{◌≡◌, ℕ, ◌≤◌, leb, List, [], ◌∷◌, length, get_or, IfOk, Some, None, Ok, Err, Option, Result, sym, refl, ap, ◌∙◌, arith}
 use Rattle.std.proofs.lemmas.Bool.{le-leb, cond-true}
 use Rattle.std.proofs.lemmas.Bool.Decides.{nat_tests}
-use Rattle.credential.specs.declared.numbers.Entity.{Entity}
-use Rattle.credential.specs.declared.numbers.RoleName.{RoleName}
+use Rattle.credential.specs.Numbers.{Entity, RoleName}
 use Rattle.credential.specs.declared.roles.Role.{Role}
 use Rattle.credential.specs.declared.letters.Letter.{Letter}
 use Rattle.credential.specs.declared.letters.Letter.TheVariants as Letters
@@ -16,7 +15,7 @@ use Rattle.credential.specs.declared.refusals.Refusal.{Refusal}
 use Rattle.credential.specs.Refusals.{Named, answered, on_ok}
 use Rattle.credential.specs.Letters.{marks_of, ranged, tested}
 use Rattle.credential.specs.Credentials.{letter_of, fields_of, role_name_in, role_in, without_place, fitted, built_by, built_of, credential_of}
-use Rattle.credential.proofs.Ranges.{entity_of-is, role_name_of-is}
+use Rattle.credential.proofs.Ranges.{number_of-is}
 
 -- what went on to an answer was answered
 pub on_ok_lem : {A B E : Type 0} (r : Result A E) (f : A → Result B E) (y : B) → on_ok r f ≡ Ok y → (x : A) × (r ≡ Ok x) × (f x ≡ Ok y)
@@ -96,8 +95,8 @@ six_fields_of (Exclusion h f g) = refl
 
 role-is : (h : Role) → role_in (Some h.owner.number) (Some h.name.number) ≡ Ok h
 role-is h =
-    ap (λ (r : Result Entity Named). on_ok r (λ owner. on_ok (role_name_in (Some h.name.number)) (λ name. Ok (record { owner = owner; name = name })))) (entity_of-is h.owner)
-    ∙ ap (λ (r : Result RoleName Named). on_ok r (λ name. Ok (record { owner = h.owner; name = name }))) (role_name_of-is h.name)
+    ap (λ (r : Result Entity Named). on_ok r (λ owner. on_ok (role_name_in (Some h.name.number)) (λ name. Ok (record { owner = owner; name = name })))) (number_of-is h.owner)
+    ∙ ap (λ (r : Result RoleName Named). on_ok r (λ name. Ok (record { owner = h.owner; name = name }))) (number_of-is h.name)
 
 two_roles : (f g : Role) (make : Role → Role → Credential) → on_ok (role_in (Some f.owner.number) (Some f.name.number)) (λ x. on_ok (role_in (Some g.owner.number) (Some g.name.number)) (λ y. Ok (make x y))) ≡ Ok (make f g)
 two_roles f g make =
@@ -108,12 +107,12 @@ built_by_lem : (c : Credential) (h : Role) → role_in (get_or (fields_of c) 0 N
 built_by_lem c h e q = ap (λ (r : Result Role Named). on_ok r (λ x. built_by (letter_of c) x (fields_of c))) e ∙ q
 
 built_is : (c : Credential) → built_of (letter_of c) (fields_of c) ≡ Ok c
-built_is (Member h d) = built_by_lem (Member h d) h (role-is h) (ap (λ (r : Result Entity Named). on_ok r (λ x. Ok (Member h x))) (entity_of-is d))
+built_is (Member h d) = built_by_lem (Member h d) h (role-is h) (ap (λ (r : Result Entity Named). on_ok r (λ x. Ok (Member h x))) (number_of-is d))
 built_is (Inclusion h f) = built_by_lem (Inclusion h f) h (role-is h) (ap (λ (r : Result Role Named). on_ok r (λ x. Ok (Inclusion h x))) (role-is f))
 built_is (Linked h s t) =
     built_by_lem (Linked h s t) h (role-is h)
-    (ap (λ (r : Result RoleName Named). on_ok r (λ x. on_ok (role_name_in (Some t.number)) (λ y. Ok (Linked h x y)))) (role_name_of-is s)
-    ∙ ap (λ (r : Result RoleName Named). on_ok r (λ y. Ok (Linked h s y))) (role_name_of-is t))
+    (ap (λ (r : Result RoleName Named). on_ok r (λ x. on_ok (role_name_in (Some t.number)) (λ y. Ok (Linked h x y)))) (number_of-is s)
+    ∙ ap (λ (r : Result RoleName Named). on_ok r (λ y. Ok (Linked h s y))) (number_of-is t))
 built_is (Intersection h f g) = built_by_lem (Intersection h f g) h (role-is h) (two_roles f g (λ x y. Intersection h x y))
 built_is (Exclusion h f g) = built_by_lem (Exclusion h f g) h (role-is h) (two_roles f g (λ x y. Exclusion h x y))
 

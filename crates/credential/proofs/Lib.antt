@@ -3,3 +3,4 @@ pub mod Fields
 pub mod Building
 pub mod Equalities
 pub mod Placing
+pub mod Placed

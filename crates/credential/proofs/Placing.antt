@@ -3,12 +3,10 @@ use Rattle.std.proofs.Common.{◌≡◌, ℕ, ◌+◌, ◌-◌, ◌*◌, ◌/◌
 use Rattle.std.proofs.lemmas.Bool.{lt-ltb, le-ltb, cond-true, cond-false, cases_lt}
 use Rattle.std.proofs.lemmas.Nat.{div-mul-add, mod-mul-add}
 use Rattle.std.specs.Result.{result_ok}
-use Rattle.credential.specs.declared.numbers.Entity.{Entity}
-use Rattle.credential.specs.declared.numbers.RoleName.{RoleName}
 use Rattle.credential.specs.declared.memberships.Membership.{Membership}
-use Rattle.credential.specs.Numbers.{entity_of, role_name_of}
+use Rattle.credential.specs.Numbers.{Entity, RoleName, entity_of, role_name_of}
 use Rattle.credential.specs.Memberships.{place, on_some, membership_at}
-use Rattle.credential.proofs.Ranges.{entity_of-is, role_name_of-is}
+use Rattle.credential.proofs.Ranges.{number_of-is}
 
 -- the membership whose three numbers a place has
 at-numbers : (m : Membership) (p : ℕ) → p < 16384 → p / 512 + 1 ≡ m.role.owner.number → p / 32 % 16 + 1 ≡ m.role.name.number → p % 32 + 1 ≡ m.member.number
@@ -17,12 +15,12 @@ at-numbers m p h a b d =
     cond-true (ltb p 16384) _ _ (lt-ltb p 16384 h)
     ∙ ap (λ (o : Option Entity). on_some o (λ owner. on_some (result_ok (role_name_of (p / 32 % 16 + 1))) (λ name.
     on_some (result_ok (entity_of (p % 32 + 1))) (λ member. Some (record { role = record { owner = owner; name = name }; member = member })))))
-    (ap (λ (n : ℕ). result_ok (entity_of n)) a ∙ ap result_ok (entity_of-is m.role.owner))
+    (ap (λ (n : ℕ). result_ok (entity_of n)) a ∙ ap result_ok (number_of-is m.role.owner))
     ∙ ap (λ (o : Option RoleName). on_some o (λ name.
     on_some (result_ok (entity_of (p % 32 + 1))) (λ member. Some (record { role = record { owner = m.role.owner; name = name }; member = member }))))
-    (ap (λ (n : ℕ). result_ok (role_name_of n)) b ∙ ap result_ok (role_name_of-is m.role.name))
+    (ap (λ (n : ℕ). result_ok (role_name_of n)) b ∙ ap result_ok (number_of-is m.role.name))
     ∙ ap (λ (o : Option Entity). on_some o (λ member. Some (record { role = m.role; member = member })))
-    (ap (λ (n : ℕ). result_ok (entity_of n)) d ∙ ap result_ok (entity_of-is m.member))
+    (ap (λ (n : ℕ). result_ok (entity_of n)) d ∙ ap result_ok (number_of-is m.member))
 
 place-below : (a r d : ℕ) → 1 ≤ a → a ≤ 32 → 1 ≤ r → r ≤ 16 → 1 ≤ d → d ≤ 32 → ((a - 1) * 16 + (r - 1)) * 32 + (d - 1) < 16384
 place-below a r d a1 a2 r1 r2 d1 d2 = omega arith

@@ -1,7 +1,5 @@
 -- A credential by its letter and its six fields.
 use Rattle.std.specs.Prelude.{ℕ, List, [], ◌∷◌, Some, None, Ok, Err, Option, Result, slice_index_or}
-use Rattle.credential.specs.declared.numbers.Entity.{Entity}
-use Rattle.credential.specs.declared.numbers.RoleName.{RoleName}
 use Rattle.credential.specs.declared.roles.Role.{Role}
 use Rattle.credential.specs.declared.letters.Letter.{Letter}
 use Rattle.credential.specs.declared.letters.Letter.TheVariants as Letters
@@ -10,7 +8,8 @@ use Rattle.credential.specs.declared.letters.Misfit.{Misfit}
 use Rattle.credential.specs.declared.credentials.Credential.{Credential}
 use Rattle.credential.specs.declared.credentials.Credential.TheVariants.{Member, Inclusion, Linked, Intersection, Exclusion}
 use Rattle.credential.specs.Refusals.{Named, refused, on_ok}
-use Rattle.credential.specs.Numbers.{entity_of, role_name_of}
+use Rattle.credential.specs.declared.numbers.Number.{Number}
+use Rattle.credential.specs.Numbers.{Entity, RoleName, number_of}
 use Rattle.credential.specs.Letters.{marks_of, tested, unplaced}
 
 abbrev pub letter_of : Credential → Letter
@@ -19,6 +18,14 @@ letter_of (Inclusion h f) = Letters.Inclusion
 letter_of (Linked h s t) = Letters.Linked
 letter_of (Intersection h f g) = Letters.Intersection
 letter_of (Exclusion h f g) = Letters.Exclusion
+
+-- the role that it is about
+abbrev pub head_of : Credential → Role
+head_of (Member h d) = h
+head_of (Inclusion h f) = h
+head_of (Linked h s t) = h
+head_of (Intersection h f g) = h
+head_of (Exclusion h f g) = h
 
 -- the fields A, r, B, s, C and t
 abbrev pub fields_of : Credential → List (Option ℕ)
@@ -30,14 +37,16 @@ fields_of (Intersection h f g) =
 fields_of (Exclusion h f g) =
     Some h.owner.number ∷ Some h.name.number ∷ Some f.owner.number ∷ Some f.name.number ∷ Some g.owner.number ∷ Some g.name.number ∷ []
 
--- what stands in a field
+-- what stands in a field of numbers up to a most
+abbrev pub filled : (most : ℕ) → Option ℕ → Result (Number most) Named
+filled most None = Err (refused 4)
+filled most (Some n) = number_of most n
+
 abbrev pub entity_in : Option ℕ → Result Entity Named
-entity_in None = Err (refused 4)
-entity_in (Some n) = entity_of n
+entity_in f = filled 32 f
 
 abbrev pub role_name_in : Option ℕ → Result RoleName Named
-role_name_in None = Err (refused 4)
-role_name_in (Some n) = role_name_of n
+role_name_in f = filled 16 f
 
 abbrev pub role_in : Option ℕ → Option ℕ → Result Role Named
 role_in a r = on_ok (entity_in a) (λ owner. on_ok (role_name_in r) (λ name. Ok (record { owner = owner; name = name })))

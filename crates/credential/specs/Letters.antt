@@ -1,5 +1,5 @@
 -- The table of marks, and which fields fit them.
-use Rattle.std.specs.Prelude.{ℕ, ◌*◌, cond, List, [], ◌∷◌, take, drop, Some, None, Ok, Err, Option, Result, nat_le}
+use Rattle.std.specs.Prelude.{ℕ, cond, List, [], ◌∷◌, ◌==◌, Some, None, Ok, Err, Option, Result, nat_le}
 use Rattle.credential.specs.Refusals.{Named, refused, refused_at}
 use Rattle.credential.specs.declared.letters.Letter.{Letter}
 use Rattle.credential.specs.declared.letters.Letter.TheVariants.{Member, Inclusion, Linked, Intersection, Exclusion}
@@ -8,25 +8,30 @@ use Rattle.credential.specs.declared.letters.Mark.TheVariants.{Entity as E, Role
 use Rattle.credential.specs.declared.letters.Misfit.{Misfit}
 use Rattle.credential.specs.declared.letters.Misfit.TheVariants.{Form, Range}
 
--- the marks of the fields A, r, B, s, C and t: an entity, a role name or a blank, a row for each letter
-abbrev pub marks : List Mark
-marks =
-    E ∷ N ∷ E ∷ O ∷ O ∷ O
-    ∷ E ∷ N ∷ E ∷ N ∷ O ∷ O
-    ∷ E ∷ N ∷ O ∷ N ∷ O ∷ N
-    ∷ E ∷ N ∷ E ∷ N ∷ E ∷ N
-    ∷ E ∷ N ∷ E ∷ N ∷ E ∷ N ∷ []
+-- the byte that stands for a letter on a page
+abbrev pub letter_byte : Letter → ℕ
+letter_byte Member = 77
+letter_byte Inclusion = 73
+letter_byte Linked = 76
+letter_byte Intersection = 78
+letter_byte Exclusion = 88
 
-abbrev pub row_of : Letter → ℕ
-row_of Member = 0
-row_of Inclusion = 1
-row_of Linked = 2
-row_of Intersection = 3
-row_of Exclusion = 4
+-- the letter that a byte stands for, if it stands for one
+abbrev pub letter_in : ℕ → Option Letter
+letter_in b =
+    cond (b == 77) (Some Member)
+    (cond (b == 73) (Some Inclusion)
+    (cond (b == 76) (Some Linked)
+    (cond (b == 78) (Some Intersection)
+    (cond (b == 88) (Some Exclusion) None))))
 
--- the marks of a letter's six fields
+-- the marks of a letter's fields A, r, B, s, C and t: an entity, a role name or a blank
 abbrev pub marks_of : Letter → List Mark
-marks_of l = take 6 (drop (6 * row_of l) marks)
+marks_of Member = E ∷ N ∷ E ∷ O ∷ O ∷ O ∷ []
+marks_of Inclusion = E ∷ N ∷ E ∷ N ∷ O ∷ O ∷ []
+marks_of Linked = E ∷ N ∷ O ∷ N ∷ O ∷ N ∷ []
+marks_of Intersection = E ∷ N ∷ E ∷ N ∷ E ∷ N ∷ []
+marks_of Exclusion = E ∷ N ∷ E ∷ N ∷ E ∷ N ∷ []
 
 -- a number from 1 to the most of its mark
 abbrev pub ranged : ℕ → ℕ → Result (Unit {0}) Misfit

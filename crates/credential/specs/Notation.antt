@@ -2,6 +2,7 @@
 use Rattle.std.specs.Prelude.{ℕ, List, ◌++◌, codes, decimal}
 use Rattle.credential.specs.declared.refusals.Refusal.{Refusal}
 use Rattle.credential.specs.declared.roles.Role.{Role}
+use Rattle.credential.specs.declared.memberships.Membership.{Membership}
 use Rattle.credential.specs.declared.credentials.Credential.{Credential}
 use Rattle.credential.specs.declared.credentials.Credential.TheVariants.{Member, Inclusion, Linked, Intersection, Exclusion}
 use Rattle.credential.specs.Refusals.{named, number_in, words_in}
@@ -9,6 +10,10 @@ use Rattle.credential.specs.Refusals.{named, number_in, words_in}
 -- `1.3`
 abbrev pub role_text : Role → List ℕ
 role_text r = decimal r.owner.number ++ (codes "." ++ decimal r.name.number)
+
+-- `4 in 1.3`
+abbrev pub membership_text : Membership → List ℕ
+membership_text m = decimal m.member.number ++ (codes " in " ++ role_text m.role)
 
 -- `1.1 <- 4`, `1.1 <- 2.1`, `1.1 <- 1.2.3`, `1.1 <- 2.1 & 3.1` and `1.1 <- 2.1 - 3.1`
 abbrev pub credential_text : Credential → List ℕ

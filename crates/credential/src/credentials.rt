@@ -1,17 +1,16 @@
 // Credentials: who says that which entities belong to a role.
-ghost use Rattle.std.specs.Prelude.{◌≡◌, IfOk, Some, Ok, Decides};
-ghost use Rattle.credential.specs.Credentials.{letter_of, fields_of, entity_in, role_name_in, role_in, fitted, built_of, credential_of};
+ghost use Rattle.std.specs.Prelude.{◌≡◌, IfOk, Some, Ok};
+ghost use Rattle.credential.specs.Credentials.{letter_of, head_of, fields_of, filled, role_in, fitted, built_of, credential_of};
 ghost use Rattle.credential.specs.Letters.{marks_of};
 ghost use Rattle.credential.specs.Refusals.{answered};
-ghost use Rattle.credential.specs.Equality.{credential_eq, credential_eq_laws};
 
 use crate::letters::Letter;
-use crate::numbers::{Entity, RoleName};
+use crate::numbers::{Entity, Number, RoleName};
 use crate::refusals::Refusal;
 use crate::roles::Role;
 
 // A credential: its head is the role that it is about, and the rest says who belongs to that.
-#[derive(Clone, Copy)]
+#[derive(Clone, Copy, PartialEq, Eq)]
 pub enum Credential {
     Member {
         head: Role,
@@ -60,6 +59,19 @@ impl Credential {
         }
     }
 
+    // The role that it is about.
+    pub fn head(self) -> Role
+        ensures { result ≡ head_of self }
+    {
+        match self {
+            Credential::Member { head, .. } => head,
+            Credential::Inclusion { head, .. } => head,
+            Credential::Linked { head, .. } => head,
+            Credential::Intersection { head, .. } => head,
+            Credential::Exclusion { head, .. } => head,
+        }
+    }
+
     // Its six fields, of which each fits its mark; a credential is made of its letter and these.
     pub fn fields(self) -> [Option<u32>; 6]
         ensures value { result ≡ fields_of self }
@@ -76,7 +88,7 @@ fn fields_of(credential: Credential) -> [Option<u32>; 6]
     match credential {
         Credential::Member { head, member } => {
             let (a, r) = role_fields(head);
-            [a, r, entity_field(member), None, None, None]
+            [a, r, field_of(member), None, None, None]
         }
         Credential::Inclusion { head, from } => {
             let (a, r) = role_fields(head);
@@ -89,14 +101,7 @@ fn fields_of(credential: Credential) -> [Option<u32>; 6]
             second,
         } => {
             let (a, r) = role_fields(head);
-            [
-                a,
-                r,
-                None,
-                role_name_field(first),
-                None,
-                role_name_field(second),
-            ]
+            [a, r, None, field_of(first), None, field_of(second)]
         }
         Credential::Intersection { head, left, right } => {
             let (a, r) = role_fields(head);
@@ -113,59 +118,41 @@ fn fields_of(credential: Credential) -> [Option<u32>; 6]
     }
 }
 
-fn entity_field(entity: Entity) -> Option<u32>
-    ensures { result ≡ Some entity.number }
+fn field_of<const MOST: u8>(number: Number<MOST>) -> Option<u32>
+    ensures { result ≡ Some number.entry.number }
 {
-    Some(entity.number() as u32)
-}
-
-fn role_name_field(name: RoleName) -> Option<u32>
-    ensures { result ≡ Some name.number }
-{
-    Some(name.number() as u32)
+    Some(u32::from(number.number()))
 }
 
 fn role_fields(role: Role) -> (Option<u32>, Option<u32>)
     ensures { result ≡ (Some role.owner.number, Some role.name.number) }
 {
-    (entity_field(role.owner), role_name_field(role.name))
+    (field_of(role.owner), field_of(role.name))
 }
 
+// Letter and fields stay two parameters: a struct of the two would be a credential that nobody has tested.
+#[tactic(auto, unfolding(crate::specs::Credentials::fitted))]
 fn test_fields(letter: Letter, fields: [Option<u32>; 6]) -> Result<(), Refusal>
     ensures { answered result ≡ fitted (marks_of letter) fields }
 {
-    let marks = letter.marks();
-    for k in 0..6 {
-        if let Err(misfit) = marks[k].test(fields[k]) {
-            return Err(misfit.refusal());
-        }
+    for (mark, field) in letter.marks().iter().zip(&fields) {
+        mark.test(*field)?;
     }
     Ok(())
 }
 
-fn entity_in(field: Option<u32>) -> Result<Entity, Refusal>
-    ensures { answered result ≡ entity_in field }
+// The entity or role name in a field.
+fn number_in<const MOST: u8>(field: Option<u32>) -> Result<Number<MOST>, Refusal>
+    ensures { answered result ≡ filled MOST field }
 {
-    match field {
-        Some(n) => Entity::new(n),
-        None => Err(Refusal::Form),
-    }
-}
-
-fn role_name_in(field: Option<u32>) -> Result<RoleName, Refusal>
-    ensures { answered result ≡ role_name_in field }
-{
-    match field {
-        Some(n) => RoleName::new(n),
-        None => Err(Refusal::Form),
-    }
+    Number::new(field.ok_or(Refusal::Form)?)
 }
 
 fn role_in(owner: Option<u32>, name: Option<u32>) -> Result<Role, Refusal>
     ensures { answered result ≡ role_in owner name }
 {
-    let owner = entity_in(owner)?;
-    let name = role_name_in(name)?;
+    let owner = number_in(owner)?;
+    let name = number_in(name)?;
     Ok(Role { owner, name })
 }
 
@@ -177,7 +164,7 @@ fn build(letter: Letter, fields: [Option<u32>; 6]) -> Result<Credential, Refusal
     let head = role_in(a, r)?;
     match letter {
         Letter::Member => {
-            let member = entity_in(b)?;
+            let member = number_in(b)?;
             Ok(Credential::Member { head, member })
         }
         Letter::Inclusion => {
@@ -185,8 +172,8 @@ fn build(letter: Letter, fields: [Option<u32>; 6]) -> Result<Credential, Refusal
             Ok(Credential::Inclusion { head, from })
         }
         Letter::Linked => {
-            let first = role_name_in(s)?;
-            let second = role_name_in(t)?;
+            let first = number_in(s)?;
+            let second = number_in(t)?;
             Ok(Credential::Linked {
                 head,
                 first,
@@ -202,56 +189,6 @@ fn build(letter: Letter, fields: [Option<u32>; 6]) -> Result<Credential, Refusal
             let from = role_in(b, s)?;
             let except = role_in(c, t)?;
             Ok(Credential::Exclusion { head, from, except })
-        }
-    }
-}
-
-impl PartialEq for Credential {
-    ghost eq = { credential_eq };
-
-    ghost laws = { credential_eq_laws };
-
-    fn eq(&self, other: &Credential) -> bool
-        ensures value { result ≡ credential_eq self.now other.now }
-        ensures decides { Decides result (self.now ≡ other.now) }
-    {
-        match *self {
-            Credential::Member { head, member } => match *other {
-                Credential::Member { head: h, member: m } => head == h && member == m,
-                _ => false,
-            },
-            Credential::Inclusion { head, from } => match *other {
-                Credential::Inclusion { head: h, from: f } => head == h && from == f,
-                _ => false,
-            },
-            Credential::Linked {
-                head,
-                first,
-                second,
-            } => match *other {
-                Credential::Linked {
-                    head: h,
-                    first: f,
-                    second: s,
-                } => { head == h && first == f && second == s }
-                _ => false,
-            },
-            Credential::Intersection { head, left, right } => match *other {
-                Credential::Intersection {
-                    head: h,
-                    left: l,
-                    right: r,
-                } => { head == h && left == l && right == r }
-                _ => false,
-            },
-            Credential::Exclusion { head, from, except } => match *other {
-                Credential::Exclusion {
-                    head: h,
-                    from: f,
-                    except: e,
-                } => { head == h && from == f && except == e }
-                _ => false,
-            },
         }
     }
 }

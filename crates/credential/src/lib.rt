@@ -2,6 +2,7 @@
 #![tactic(auto)]
 
 pub mod credentials;
+pub mod equality;
 pub mod letters;
 pub mod memberships;
 pub mod notation;
@@ -11,9 +12,9 @@ pub mod roles;
 pub mod sources;
 
 pub use credentials::Credential;
-pub use letters::{Letter, Mark};
+pub use letters::{Letter, Mark, UnknownLetter};
 pub use memberships::Membership;
-pub use numbers::{Entity, RoleName};
+pub use numbers::{Entity, Number, RoleName};
 pub use refusals::Refusal;
 pub use roles::Role;
 pub use sources::Source;

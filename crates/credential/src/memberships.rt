@@ -6,7 +6,7 @@ use crate::numbers::{Entity, RoleName};
 use crate::roles::Role;
 
 // That an entity belongs to a role.
-#[derive(Clone, Copy)]
+#[derive(Clone, Copy, PartialEq, Eq)]
 pub struct Membership {
     pub role: Role,
     pub member: Entity,
@@ -22,10 +22,10 @@ impl Membership {
         ensures within { result < 16384 }
         ensures back { membership_at (place self) ≡ Some self }
     {
-        let owner = self.role.owner.number() as usize;
-        let name = self.role.name.number() as usize;
-        let member = self.member.number() as usize;
-        ((owner - 1) * 16 + (name - 1)) * 32 + (member - 1)
+        let owner = self.role.owner.index();
+        let name = self.role.name.index();
+        let member = self.member.index();
+        (owner * 16 + name) * 32 + member
     }
 
     // The membership at a place, absent past the last.

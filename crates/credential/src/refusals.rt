@@ -3,7 +3,7 @@ ghost use Rattle.std.specs.Prelude.{◌≡◌};
 ghost use Rattle.credential.specs.Refusals.{named, number_in, position_in, entry_in, words_in};
 
 // Each case is one condition; the values are what the refusal names.
-#[derive(Clone, Copy, Debug)]
+#[derive(Clone, Copy, PartialEq, Eq, Debug)]
 pub enum Refusal {
     PageTooLong,
     LineUnended { line: usize },

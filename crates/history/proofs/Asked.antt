@@ -1,10 +1,8 @@
 -- The numbers of an offer tell its membership.
 use Rattle.std.proofs.Common.{◌≡◌, ℕ, ◌≤◌, Bool, true, false, leb, Ok, Err, Result, refl, ap, arith}
 use Rattle.std.proofs.lemmas.Bool.{leb-false}
-use Rattle.credential.specs.declared.numbers.Entity.{Entity}
-use Rattle.credential.specs.declared.numbers.RoleName.{RoleName}
 use Rattle.credential.specs.Refusals.{Named, refused as by, on_ok}
-use Rattle.credential.specs.Numbers.{within, entity_of, role_name_of}
+use Rattle.credential.specs.Numbers.{RoleName, Entity, within, entity_of, role_name_of}
 use Rattle.history.specs.Theorems.{Numbered, NumbersTell}
 use Rattle.credential.specs.declared.memberships.Membership.{Membership}
 use Rattle.model.proofs.Places.{same_place}

@@ -2,7 +2,7 @@
 use Rattle.std.proofs.Common.{◌≡◌, ℕ, zero, suc, ◌+◌, ◌-◌, ◌≤◌, Bool, true, false, cond, ◌||◌, eqb, List, [], ◌∷◌, ◌++◌, map, length, get_or, take, drop, replicate, sym, refl, ap, ◌∙◌, subst, arith}
 use Rattle.std.proofs.lemmas.Bool.{eqb-true, eqb-false, eq-eqb}
 use Rattle.std.proofs.lemmas.List.{length-set, get_or-set_same, get_or-set_other}
-use Rattle.credential.specs.declared.numbers.RoleName.{RoleName}
+use Rattle.credential.specs.Numbers.{RoleName}
 use Rattle.history.specs.Events.{Making, Slip, History, published, withdrawn, certified, adopted, offered, drawn, declined, handed_back, refused}
 use Rattle.history.specs.Words.{total, HasItemAt, one_if, among, Lease, leases, declines, hand_backs, ended, held, open_by, offers_given, weight_of, for}
 use Rattle.history.specs.Contents.{is_free, is_offered, is_held, Contents, record_of, opened, in_book, figure, one_more, Tells, Keeps, MakingKeeps}

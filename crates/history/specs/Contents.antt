@@ -2,7 +2,7 @@
 use Rattle.std.specs.Prelude.{◌≡◌, ℕ, suc, ◌-◌, Bool, true, false, List, [], length, replicate, slice_index, slice_set}
 use Rattle.std.proofs.Math.Option.{Option, none, some}
 use Rattle.credential.specs.declared.credentials.Credential.{Credential}
-use Rattle.credential.specs.declared.numbers.RoleName.{RoleName}
+use Rattle.credential.specs.Numbers.{RoleName}
 use Rattle.model.specs.Tables.{Table}
 use Rattle.history.specs.Events.{Kind, Making, History}
 use Rattle.history.specs.Words.{total, standing, certificate, Lease, open_by, offers_given, for, given, declined_of, handed_back_of}

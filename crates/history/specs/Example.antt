@@ -4,7 +4,7 @@ use Rattle.std.proofs.Common.{lit≤}
 use Rattle.credential.specs.declared.credentials.Credential.{Credential}
 use Rattle.credential.specs.declared.credentials.Credential.TheVariants.{Member, Exclusion}
 use Rattle.credential.specs.declared.memberships.Membership.{Membership}
-use Rattle.credential.specs.declared.numbers.Entity.{Entity}
+use Rattle.credential.specs.Numbers.{Entity}
 use Rattle.credential.specs.declared.roles.Role.{Role}
 use Rattle.credential.specs.Refusals.{refused as by}
 use Rattle.model.specs.Tables.{Table}

@@ -3,7 +3,7 @@ use Rattle.std.specs.Prelude.{◌≡◌, ℕ, suc, ◌-◌, ◌<◌, ◌↔◌, 
 use Rattle.std.proofs.Math.Option.{Option, none, some}
 use Rattle.credential.specs.declared.credentials.Credential.{Credential}
 use Rattle.credential.specs.declared.memberships.Membership.{Membership}
-use Rattle.credential.specs.declared.numbers.RoleName.{RoleName}
+use Rattle.credential.specs.Numbers.{RoleName}
 use Rattle.credential.specs.Memberships.{place}
 use Rattle.model.specs.Tables.{Table, table, verdict}
 use Rattle.history.specs.Events.{Making, Event, History, published, withdrawn, certified, adopted, offered, drawn, declined, handed_back, refused, call, HasCall}

@@ -1,7 +1,7 @@
 -- A page line by line: its test, its credentials by place, and the buffer that it is written into.
-use Rattle.std.proofs.Common.{◌≡◌, ℕ, zero, suc, ◌+◌, ◌-◌, ◌*◌, ◌/◌, ◌<◌, ◌≤◌, min, Bool, true, false, cond, eqb, ltb, List, [], ◌∷◌, ◌++◌, length, take, drop, is_ok, IfOk, Some, None, Ok, Err, Result, sym, refl, ap, ◌∙◌, subst, ⊎_elim, append_assoc, le_of_suc-le-suc, not-suc-le-zero, add-one, arith, length-drop}
+use Rattle.std.proofs.Common.{◌≡◌, ℕ, ◌+◌, ◌-◌, ◌*◌, ◌/◌, ◌<◌, ◌≤◌, min, Bool, true, false, cond, eqb, ltb, List, [], ◌∷◌, ◌++◌, length, get_or, take, drop, is_ok, IfOk, Some, None, Ok, Err, Result, sym, refl, ap, ◌∙◌, subst, ⊎_elim, append_assoc, zero-add, arith, length-drop}
 use borrow.Rule.Slice.PartMut.{put_mid}
-use Rattle.std.proofs.lemmas.List.{take_all, take_at, append-nil, length-take-le}
+use Rattle.std.proofs.lemmas.List.{take_all, take_at, take_min, take_more, drop_all, drop_at, drop-drop, append-nil, length-append, length-take-le, nil_from_length}
 use Rattle.std.proofs.lemmas.Option.{slice_get_past}
 use Rattle.std.proofs.lemmas.Bool.{cases_lt, cond-true, cond-false, le-ltb, lt-ltb, eq-eqb, ne_eqb, false≢true}
 use Rattle.std.specs.Result.{result_ok}
@@ -11,18 +11,30 @@ use Rattle.credential.specs.declared.refusals.Refusal.{Refusal}
 use Rattle.credential.specs.Refusals.{Named, refused, answered}
 use Rattle.credential.specs.Sources.{placed}
 use Rattle.page.specs.Lines.{collected, read_line, line_of}
-use Rattle.page.specs.Pages.{line_at, read_page, whether, list_of, credentials_of, page_of, write_answer, write_after}
+use Rattle.page.specs.Pages.{line_at, read_page, list_of, credentials_of, credential_at, page_of, write_answer, write_after}
 use Rattle.page.proofs.Collecting.{collect_at}
 use Rattle.page.proofs.Columns.{put_behind}
 use Rattle.page.proofs.RoundTrip.{never, page_lines, page_back, page-length, page_forth}
 
--- the bytes of a line, or of what is left
-pub chunk : (bs : List ℕ) (a e : ℕ) → e ≡ min (length bs) (a + 20) → a < length bs → take (e - a) (drop a bs) ≡ take 20 (drop a bs)
-chunk bs a e m h =
-    ⊎_elim (λ (l : length bs < a + 20).
-    let n : length (drop a bs) ≡ length bs - a = length-drop a bs in
-    take_all (e - a) (drop a bs) (omega arith) ∙ sym (take_all 20 (drop a bs) (omega arith)))
-    (λ (l : a + 20 ≤ length bs). let k : e - a ≡ 20 = omega arith in ap (λ (k : ℕ). take k (drop a bs)) k) (cases_lt (length bs) (a + 20))
+-- a chunk of what is left behind i lines: the bytes of a line, or of what is left, and what comes after it
+module _ (bytes rest x more : List ℕ) (i : ℕ) (r : rest ≡ drop (20 * i) bytes) (e : rest ≡ x ++ more) (l : length x ≡ min 20 (length rest)) where
+  parts : length rest ≡ length x + length more
+  parts = ap length e ∙ length-append x more
+
+  pub chunk : x ≡ take 20 (drop (20 * i) bytes)
+  chunk =
+      sym (ap (λ (t : List ℕ). take 20 t) (sym r) ∙ sym (take_min 20 rest) ∙ ap (λ (n : ℕ). take n rest) (sym l) ∙ ap (λ (t : List ℕ). take (length x) t) e
+      ∙ take_at x more (length x) refl)
+
+  pub chunk_rest : more ≡ drop (20 * (i + 1)) bytes
+  chunk_rest =
+      let n : length rest ≡ length bytes - 20 * i = ap length r ∙ length-drop (20 * i) bytes in
+      let p = parts in
+      let d : 20 * (i + 1) ≡ 20 * i + 20 = omega arith in
+      ⊎_elim (λ (h : length rest < 20). nil_from_length more (omega arith) ∙ sym (drop_all (20 * (i + 1)) bytes (omega arith)))
+      (λ (h : 20 ≤ length rest).
+      sym (ap (λ (j : ℕ). drop j bytes) d ∙ sym (drop-drop 20 (20 * i) bytes) ∙ ap (λ (t : List ℕ). drop 20 t) (sym r ∙ e) ∙ drop_at x more 20 (omega arith)))
+      (cases_lt (length rest) 20)
 
 -- a lawful page
 
@@ -47,14 +59,18 @@ module _ (bytes : List ℕ) (lawful : is_ok (read_page bytes) ≡ true) where
       → (c : Credential) × (read_line (take 20 (drop (20 * (place - 1)) bytes)) place ≡ Ok c) × (placed (credentials_of bytes) place ≡ Some c)
   line_there place a b =
       let l : (length bytes + 19) / 20 ≡ length bytes / 20 = (let q = lawful-length in omega arith) in
-      let p = (collect_at ((length bytes + 19) / 20) (line_at bytes) 0 (credentials_of bytes) (page_lines bytes (credentials_of bytes) (ok_is (read_page bytes) lawful)).1).1 (place - 1) (omega arith) in
-      let i : 0 + (place - 1) ≡ place - 1 = omega arith in
-      let n : place - 1 + 1 ≡ place = omega arith in
-      let z : place ≡ 0 → ⊥ = λ e. omega arith in (
-        p.0,
-        ap (λ (k : ℕ). read_line (take 20 (drop (20 * (place - 1)) bytes)) k) (sym n) ∙ ap (λ (k : ℕ). line_at bytes k) (sym i) ∙ p.1,
-        cond-false (eqb place 0) _ _ (ne_eqb place 0 z) ∙ p.2,
-      )
+      found place a
+      ((collect_at ((length bytes + 19) / 20) (line_at bytes) 0 (credentials_of bytes) (page_lines bytes (credentials_of bytes) (ok_is (read_page bytes) lawful)).1).1 (place - 1) (omega arith))
+    where
+      found : (place : ℕ) → 1 ≤ place → (c : Credential) × (line_at bytes (0 + (place - 1)) ≡ Ok c) × (slice_get (credentials_of bytes) (place - 1) ≡ Some c)
+          → (c : Credential) × (read_line (take 20 (drop (20 * (place - 1)) bytes)) place ≡ Ok c) × (placed (credentials_of bytes) place ≡ Some c)
+      found place a (c, e, s) =
+          let n : place - 1 + 1 ≡ place = omega arith in
+          let z : place ≡ 0 → ⊥ = λ e. omega arith in (
+            c,
+            ap (λ (k : ℕ). read_line (take 20 (drop (20 * (place - 1)) bytes)) k) (sym n) ∙ ap (λ (k : ℕ). line_at bytes k) (sym (zero-add (place - 1))) ∙ e,
+            cond-false (eqb place 0) _ _ (ne_eqb place 0 z) ∙ s,
+          )
 
 pub placed_low : (cs : List Credential) (place : ℕ) → place < 1 → None ≡ placed cs place
 placed_low cs place h = let z : place ≡ 0 = omega arith in sym (cond-true (eqb place 0) _ _ (eq-eqb place 0 z))
@@ -64,25 +80,22 @@ placed_past cs place h =
     let z : place ≡ 0 → ⊥ = λ e. omega arith in
     sym (cond-false (eqb place 0) _ _ (ne_eqb place 0 z) ∙ slice_get_past cs (place - 1) (omega arith))
 
--- an answer of the reader as an option
-pub as_option : (r : Result Credential Refusal) (c : Credential) → answered r ≡ Ok c → result_ok r ≡ Some c
-as_option (Ok x) c e = cc
-as_option (Err d) c e = never _ c e
-
--- a test that passed, or that refused
-passed : (r : Result (List Credential) Named) → ◌≡◌ {A = Result (Unit {0}) Named} (Ok tt) (whether r) → is_ok r ≡ true
-passed (Ok cs) e = refl
-passed (Err d) e = never d tt (sym e)
-
-refusal_is : (r : Result (List Credential) Named) (d : Named) → Err d ≡ whether r → r ≡ Err d
-refusal_is (Ok cs) d e = never d tt e
-refusal_is (Err f) d e = let q : d ≡ f = cc in ap (λ (x : Named). Err x) (sym q)
-
-pub test_passed : (bytes : List ℕ) → ◌≡◌ {A = Result (Unit {0}) Named} (Ok tt) (whether (read_page bytes)) → (is_ok (read_page bytes) ≡ true) × (Ok (credentials_of bytes) ≡ read_page bytes)
-test_passed bytes e = let h = passed (read_page bytes) e in (h, sym (ok_is (read_page bytes) h))
-
-pub test_refused : (bytes : List ℕ) (d : Named) → Err d ≡ whether (read_page bytes) → (Err d ≡ read_page bytes) × ([] ≡ credentials_of bytes)
-test_refused bytes d e = let q = refusal_is (read_page bytes) d e in (sym q, ap list_of (sym q))
+-- the credentials of a lawful page by their places
+pub credential_there : (bytes : List ℕ) → is_ok (read_page bytes) ≡ true → (place : ℕ) → credential_at bytes place ≡ placed (credentials_of bytes) place
+credential_there bytes lawful place =
+    let n = counts bytes lawful in
+    ⊎_elim
+    (λ (h : place < 1). cond-true _ _ _ (lt-ltb place 1 h) ∙ placed_low (credentials_of bytes) place h)
+    (λ (a : 1 ≤ place).
+    ⊎_elim
+    (λ (h : length bytes / 20 < place). cond-false _ _ _ (le-ltb place 1 a) ∙ cond-true _ _ _ (lt-ltb (length bytes / 20) place h) ∙ placed_past (credentials_of bytes) place (omega arith))
+    (λ (b : place ≤ length bytes / 20).
+    let p = line_there bytes lawful place a b in
+    let k : place - 1 + 1 ≡ place = omega arith in
+    cond-false _ _ _ (le-ltb place 1 a) ∙ cond-false _ _ _ (le-ltb (length bytes / 20) place b)
+    ∙ ap result_ok (ap (λ (j : ℕ). read_line (take 20 (drop (20 * (place - 1)) bytes)) j) k ∙ p.1) ∙ sym p.2)
+    (cases_lt (length bytes / 20) place))
+    (cases_lt place 1)
 
 pub empty_lawful : is_ok (read_page []) ≡ true
 unfolding collected
@@ -99,30 +112,19 @@ unfolding page_of
 page_push [] c = append-nil (line_of c)
 page_push (d ∷ cs) c = ap (λ (t : List ℕ). line_of d ++ t) (page_push cs c) ∙ sym (append_assoc (line_of d) (page_of cs) (line_of c))
 
-nth_more : (cs : List Credential) (k : ℕ) (c : Credential) → slice_get cs k ≡ Some c → take (suc k) cs ≡ take k cs ++ c ∷ []
-nth_more [] k c e = let z : ◌≡◌ {A = ℕ} 0 1 = cc in absurd (omega arith)
-nth_more (d ∷ cs) zero c e = let q : d ≡ c = cc in ap (λ (u : Credential). u ∷ []) q
-nth_more (d ∷ cs) (suc k) c e = ap (λ (us : List Credential). d ∷ us) (nth_more cs k c e)
-
-placed_at : (cs : List Credential) (i : ℕ) → placed cs (i + 1) ≡ slice_get cs i
-placed_at cs i =
-    let z : i + 1 ≡ 0 → ⊥ = λ e. omega arith in
-    let k : i + 1 - 1 ≡ i = omega arith in
-    cond-false (eqb (i + 1) 0) _ _ (ne_eqb (i + 1) 0 z) ∙ ap (λ (j : ℕ). slice_get cs j) k
-
 module _ (cs : List Credential) (out xs : List ℕ) (i : ℕ) (q : xs ≡ page_of (take i cs) ++ drop (20 * i) out) where
-  page_more : (c : Credential) (ys : List ℕ) → i < length cs → placed cs (i + 1) ≡ Some c → ys ≡ line_of c
+  page_more : (c : Credential) (ys : List ℕ) → i < length cs → c ≡ get_or cs i c → ys ≡ line_of c
       → put_mid (20 * i) (20 * i + 20 - 20 * i) xs ys ≡ page_of (take (i + 1) cs) ++ drop (20 * (i + 1)) out
   page_more c ys h e y =
       let l : length (take i cs) ≡ i = length-take-le i cs (omega arith) in
       let front : length (page_of (take i cs)) ≡ 20 * i = page-length (take i cs) ∙ ap (λ (n : ℕ). 20 * n) l in
       let more : page_of (take i cs) ++ ys ≡ page_of (take (i + 1) cs) =
       ap (λ (t : List ℕ). page_of (take i cs) ++ t) y ∙ sym (page_push (take i cs) c)
-      ∙ ap page_of (sym (nth_more cs i c (sym (placed_at cs i) ∙ e))) ∙ ap (λ (j : ℕ). page_of (take j cs)) (sym (add-one i)) in
+      ∙ ap (λ (d : Credential). page_of (take i cs ++ d ∷ [])) e ∙ ap page_of (sym (take_more cs i c h)) in
       put_behind (20 * i) (20 * i + 20 - 20 * i) (20 * (i + 1)) (page_of (take i cs)) out xs ys q front (omega arith)
       ∙ ap (λ (t : List ℕ). t ++ drop (20 * (i + 1)) out) more
 
-  pub page_more_at : (a : ℕ) → a ≡ 20 * i → (c : Credential) (ys : List ℕ) → i < length cs → placed cs (i + 1) ≡ Some c → ys ≡ line_of c
+  pub page_more_at : (a : ℕ) → a ≡ 20 * i → (c : Credential) (ys : List ℕ) → i < length cs → c ≡ get_or cs i c → ys ≡ line_of c
       → put_mid a (a + 20 - a) xs ys ≡ page_of (take (i + 1) cs) ++ drop (20 * (i + 1)) out
   page_more_at a m c ys h e y = subst (λ (b : ℕ). put_mid b (b + 20 - b) xs ys ≡ page_of (take (i + 1) cs) ++ drop (20 * (i + 1)) out) (sym m) (page_more c ys h e y)
 
@@ -134,15 +136,6 @@ module _ (cs : List Credential) (out xs : List ℕ) (i : ℕ) (q : xs ≡ page_o
 pub page-none : (cs : List Credential) (out : List ℕ) → out ≡ page_of (take 0 cs) ++ drop (20 * 0) out
 unfolding page_of
 page-none cs out = refl
-
--- no place below the count is absent
-pub never_absent : (cs : List Credential) (i : ℕ) {P : Type 0} → i < length cs → placed cs (i + 1) ≡ None → P
-never_absent cs i h e = there cs i h (sym (placed_at cs i) ∙ e)
-  where
-    there : {P : Type 0} (cs : List Credential) (k : ℕ) → k < length cs → slice_get cs k ≡ None → P
-    there [] k h e = absurd (not-suc-le-zero h)
-    there (c ∷ cs) zero h e = let z : ◌≡◌ {A = ℕ} 0 1 = cc in absurd (omega arith)
-    there (c ∷ cs) (suc k) h e = there cs k (le_of_suc-le-suc h) e
 
 module _ (cs : List Credential) (out : List ℕ) where
   pub too_short : length out < 20 * length cs → ltb (length out) (20 * length cs) ≡ true

@@ -3,6 +3,7 @@ use Rattle.std.proofs.Common.{◌≡◌, ℕ, zero, suc, ◌+◌, ◌*◌, ◌/�
 use Rattle.std.proofs.lemmas.Bool.Decides.{nat_tests}
 use Rattle.std.proofs.lemmas.Bool.{eqb-true, le-ltb, ltb-false as ltb-le, cond-true, cond-false, eq-eqb}
 use Rattle.std.proofs.lemmas.List.{take-append-drop, drop-drop, drop_more, drop_all, take_at, drop_at, get_or_at, length-take-le}
+use Rattle.std.specs.Option.{ok_or}
 use Rattle.credential.specs.declared.credentials.Credential.{Credential}
 use Rattle.credential.specs.declared.letters.Letter.{Letter}
 use Rattle.credential.specs.declared.letters.Letter.TheVariants.{Member, Inclusion, Linked, Intersection, Exclusion}
@@ -10,13 +11,13 @@ use Rattle.credential.specs.declared.letters.Mark.{Mark}
 use Rattle.credential.specs.declared.letters.Mark.TheVariants.{Entity as E, RoleName as N, Blank as O}
 use Rattle.credential.specs.declared.letters.Misfit.{Misfit}
 use Rattle.credential.specs.Refusals.{Named, refused_at, on_ok}
-use Rattle.credential.specs.Letters.{marks_of, tested}
+use Rattle.credential.specs.Letters.{letter_byte, letter_in, marks_of, tested}
 use Rattle.credential.specs.Credentials.{letter_of, fields_of, fitted, credential_of}
 use Rattle.credential.proofs.Fields.{six_marks}
 use Rattle.credential.proofs.Building.{on_ok_lem, fitted_both, fitted_parts, fields_fit, six_fields_of, made_of_fields, fields_of_made, range_of}
 use Rattle.page.specs.Numerals.{numeral, lead, number_in}
-use Rattle.page.specs.Fields.{Seen, number, nothing, blank, marked, if_fits, read_at, value_of, field_text}
-use Rattle.page.specs.Lines.{collected, read_letter, letter_byte, read_field, read_fields, read_line, fields_text, line_of}
+use Rattle.page.specs.Fields.{blank, field_at, fit_at, if_fits, read_at, value_of, field_text}
+use Rattle.page.specs.Lines.{collected, read_letter, read_field, read_fields, read_line, fields_text, line_of}
 use Rattle.page.specs.Pages.{line_at, read_page, page_of}
 use Rattle.page.proofs.NumberTrip.{number_back, number_forth}
 use Rattle.page.proofs.Collecting.{collect_at}
@@ -60,10 +61,10 @@ three_blanks (x ∷ y ∷ []) n b = absurd (omega arith)
 three_blanks (x ∷ y ∷ z ∷ []) n b = grind (arith, nat_tests)
 three_blanks (x ∷ y ∷ z ∷ w ∷ ws) n b = absurd (omega arith)
 
-field_back : (m : Mark) (bs : List ℕ) (l c : ℕ) (v : Option ℕ) → length bs ≡ 3 → value_of m (marked bs l c) ≡ Ok v → Taken m bs v
+field_back : (m : Mark) (bs : List ℕ) (l c : ℕ) (v : Option ℕ) → length bs ≡ 3 → value_of m bs l c ≡ Ok v → Taken m bs v
 field_back m bs l c v n e = by (blank bs) refl e
   where
-    by : (b : Bool) → blank bs ≡ b → value_of m (cond b (nothing bs l c) (number bs l c)) ≡ Ok v → Taken m bs v
+    by : (b : Bool) → blank bs ≡ b → cond b (fit_at m None l c) (read_at m (number_in bs) l c) ≡ Ok v → Taken m bs v
     by true b e =
         let p = if_fits_lem None v l c (tested m None) e in
         subst (λ (u : Option ℕ). Taken m bs u) p.0 (taken_blank m bs (three_blanks bs n b) p.1)
@@ -72,13 +73,13 @@ field_back m bs l c v n e = by (blank bs) refl e
 fits-at : (m : Mark) (v : Option ℕ) (l c : ℕ) → tested m v ≡ Ok tt → if_fits v l c (tested m v) ≡ Ok v
 fits-at m v l c e = ap (λ (t : Result (Unit {0}) Misfit). if_fits v l c t) e
 
-number_field : (m : Mark) (n l c : ℕ) → n < 1000 → tested m (Some n) ≡ Ok tt → value_of m (marked (numeral 3 n) l c) ≡ Ok (Some n)
+number_field : (m : Mark) (n l c : ℕ) → n < 1000 → tested m (Some n) ≡ Ok tt → value_of m (numeral 3 n) l c ≡ Ok (Some n)
 number_field m n l c h t =
-    ap (λ (s : Seen). value_of m s) (cond-false (blank (numeral 3 n)) _ _ (not_blank n))
+    cond-false (blank (numeral 3 n)) _ _ (not_blank n)
     ∙ ap (λ (o : Option ℕ). read_at m o l c) (number_forth 3 n (omega arith) (omega arith) h)
     ∙ fits-at m (Some n) l c t
 
-pub field_forth : (m : Mark) (v : Option ℕ) (l c : ℕ) → tested m v ≡ Ok tt → value_of m (marked (field_text m v) l c) ≡ Ok v
+pub field_forth : (m : Mark) (v : Option ℕ) (l c : ℕ) → tested m v ≡ Ok tt → value_of m (field_text m v) l c ≡ Ok v
 field_forth E (Some n) l c t = let p = range_of 32 n t in number_field E n l c (omega arith) t
 field_forth E None l c t = let z : ◌≡◌ {A = ℕ} 0 1 = cc in absurd (omega arith)
 field_forth N (Some n) l c t = let p = range_of 16 n t in number_field N n l c (omega arith) t
@@ -117,7 +118,7 @@ module _ (ms : List Mark) (text : List ℕ) (line : ℕ) where
       let q = on_ok_lem (collected n (read_field ms text line) (k + 1)) _ vs p.2 in
       let w : p.0 ∷ q.0 ≡ vs = (let e2 = q.2 in cc) in
       let l3 : length (take 3 (drop (3 * k + 1) text)) ≡ 3 = length-take-le 3 (drop (3 * k + 1) text) (simp length-drop (omega arith)) in
-      let here = field_back (get_or ms k E) (take 3 (drop (3 * k + 1) text)) line (3 * k + 2) p.0 l3 p.1 in
+      let here = field_back (get_or ms k E) (field_at text k) line (3 * k + 2) p.0 l3 p.1 in
       let more = fields_back n (k + 1) q.0 (omega arith) (omega arith) q.1 in
       let s : 3 * suc n ≡ 3 + 3 * n = omega arith in
       let d : 3 * k + 1 + 3 ≡ 3 * (k + 1) + 1 = omega arith in (
@@ -148,7 +149,7 @@ module _ (ms : List Mark) (text : List ℕ) (line : ℕ) where
       ap (λ (j : ℕ). drop j text) d ∙ sym (drop-drop 3 (3 * k + 1) text) ∙ ap (λ (t : List ℕ). drop 3 t) e2
       ∙ drop_at (field_text (get_or ms k E) v) _ 3 (field_length (get_or ms k E) v) in
       let here : read_field ms text line k ≡ Ok v =
-      ap (λ (bs : List ℕ). value_of (get_or ms k E) (marked bs line (3 * k + 2))) t3 ∙ field_forth (get_or ms k E) v line (3 * k + 2) fit.0 in
+      ap (λ (bs : List ℕ). value_of (get_or ms k E) bs line (3 * k + 2)) t3 ∙ field_forth (get_or ms k E) v line (3 * k + 2) fit.0 in
       ap (λ (r : Result (Option ℕ) Named). on_ok r (λ v. on_ok (collected (length vs) (read_field ms text line) (k + 1)) (λ vs. Ok (v ∷ vs)))) here
       ∙ ap (λ (r : Result (List (Option ℕ)) Named). on_ok r (λ vs. Ok (v ∷ vs))) (fields_forth vs (k + 1) rest (omega arith) d3 fit.1)
 
@@ -161,28 +162,15 @@ cond_ok false r s y e = inr (refl, e)
 pub never : {A E : Type 0} {P : Type 0} (d : E) (y : A) → Err d ≡ Ok y → P
 never d y e = let z : ◌≡◌ {A = ℕ} 0 1 = cc in absurd (omega arith)
 
+letter_known : (b : ℕ) (l : Letter) → letter_in b ≡ Some l → letter_byte l ≡ b
+letter_known b l e = grind (arith, nat_tests)
+
 letter_back : (b line : ℕ) (l : Letter) → read_letter b line ≡ Ok l → letter_byte l ≡ b
-letter_back b line l e =
-    elim (cond_ok (eqb b 77) _ _ l e) [
-      | inl a ↦ same 77 Member a.0 a.1 refl
-      | inr e1 ↦
-          elim (cond_ok (eqb b 73) _ _ l e1.1) [
-            | inl a ↦ same 73 Inclusion a.0 a.1 refl
-            | inr e2 ↦
-                elim (cond_ok (eqb b 76) _ _ l e2.1) [
-                  | inl a ↦ same 76 Linked a.0 a.1 refl
-                  | inr e3 ↦
-                      elim (cond_ok (eqb b 78) _ _ l e3.1) [
-                        | inl a ↦ same 78 Intersection a.0 a.1 refl
-                        | inr e4 ↦
-                            elim (cond_ok (eqb b 88) _ _ l e4.1) [ inl a ↦ same 88 Exclusion a.0 a.1 refl | inr e5 ↦ never (refused_at 3 line 1) l e5.1 ]
-                      ]
-                ]
-          ]
-    ]
+letter_back b line l e = by (letter_in b) refl e
   where
-    same : (x : ℕ) (k : Letter) → eqb b x ≡ true → ◌≡◌ {A = Result Letter Named} (Ok k) (Ok l) → letter_byte k ≡ x → letter_byte l ≡ b
-    same x k t e q = let w : k ≡ l = cc in ap letter_byte (sym w) ∙ q ∙ sym (eqb-true b x t)
+    by : (o : Option Letter) → letter_in b ≡ o → ok_or o (refused_at 3 line 1) ≡ Ok l → letter_byte l ≡ b
+    by (Some k) q e = let w : k ≡ l = cc in letter_known b l (q ∙ ap (λ (x : Letter). Some x) w)
+    by None q e = never (refused_at 3 line 1) l e
 
 letter_forth : (l : Letter) (line : ℕ) → read_letter (letter_byte l) line ≡ Ok l
 letter_forth Member line = refl

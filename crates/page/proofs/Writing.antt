@@ -1,8 +1,10 @@
 -- What the writing of fields gives.
 use Rattle.std.proofs.Common.{◌≡◌, ℕ, zero, suc, ◌+◌, ◌-◌, ◌*◌, ◌<◌, ◌≤◌, ltb, List, [], ◌∷◌, ◌++◌, length, get_or, take, drop, set, Some, None, Option, sym, refl, ap, ◌∙◌, append_assoc, le_of_suc-le-suc, not-suc-le-zero, add-one, arith}
 use borrow.Rule.Slice.PartMut.{put_mid}
-use Rattle.std.proofs.lemmas.List.{append-nil, length-append, length-take-le, take-append-drop, take_all, drop_more, drop_all, set_at}
+use Rattle.std.proofs.lemmas.List.{append-nil, length-append, length-take-le, take-append-drop, take_all, drop_more, drop_all, set_at, get_or_default}
+use Rattle.std.proofs.lemmas.Slice.Zip.{length-zip, get_or-zip}
 use Rattle.std.proofs.lemmas.Bool.{cond-false, le-ltb}
+use Rattle.std.specs.List.{enumerate_from, zip}
 use Rattle.credential.specs.declared.letters.Mark.{Mark}
 use Rattle.credential.specs.declared.letters.Mark.TheVariants.{Entity as E, RoleName as N, Blank as O}
 use Rattle.credential.specs.declared.credentials.Credential.{Credential}
@@ -14,7 +16,7 @@ use Rattle.page.specs.Numerals.{lead, numeral}
 use Rattle.page.specs.Fields.{field_text, number_text}
 use Rattle.page.specs.Lines.{fields_text, line_of}
 use Rattle.page.specs.Pages.{page_of, write_after}
-use Rattle.page.proofs.Columns.{put_behind}
+use Rattle.page.proofs.Columns.{put_behind, turn}
 
 number-length : (v : Option ℕ) → length (number_text v) ≡ 3
 unfolding numeral lead
@@ -75,6 +77,21 @@ fields_all k ms vs start line xs e lm lv q =
     q ∙ ap (λ (j : ℕ). (start ++ fields_text (take j ms) (take j vs)) ++ drop (3 * j + 1) line) e
     ∙ ap (λ (us : List Mark). (start ++ fields_text us (take 6 vs)) ++ drop 19 line) (take_all 6 ms (omega arith))
     ∙ ap (λ (us : List (Option ℕ)). (start ++ fields_text ms us) ++ drop 19 line) (take_all 6 vs (omega arith))
+
+-- one turn over the marks and the fields with their count: which pair comes
+pub pair_at : (ms : List Mark) (vs : List (Option ℕ)) (i k : ℕ) (m : Mark) (v : Option ℕ) → length ms ≡ 6 → length vs ≡ 6
+    → (i < length (enumerate_from 0 (zip ms vs))) × (◌≡◌ {A = ℕ × (Mark × Option ℕ)} (k, (m, v)) (get_or (enumerate_from 0 (zip ms vs)) i (k, (m, v))))
+    → (i < 6) × (k ≡ i) × (m ≡ get_or ms i E) × (v ≡ get_or vs i None)
+pair_at ms vs i k m v lm lv t =
+    let p = turn (zip ms vs) i k (m, v) t in
+    let z = length-zip ms vs in
+    let h : i < 6 = omega (arith, p.0) in
+    let e : ◌≡◌ {A = Mark × Option ℕ} (m, v) (get_or ms i m, get_or vs i v) = p.2 ∙ get_or-zip ms vs i (m, v) (omega arith) (omega arith) in (
+      h,
+      p.1,
+      ap (λ (q : Mark × Option ℕ). q.0) e ∙ get_or_default ms i m E (omega arith),
+      ap (λ (q : Mark × Option ℕ). q.1) e ∙ get_or_default vs i v None (omega arith),
+    )
 
 -- a line by its letter, its fields and its end
 pub line_whole : (b : ℕ) (text line xs : List ℕ) → length line ≡ 20 → length text ≡ 18

@@ -6,29 +6,14 @@ use Rattle.credential.specs.declared.letters.Misfit.{Misfit}
 use Rattle.credential.specs.Refusals.{Named, refused_at}
 use Rattle.credential.specs.Letters.{tested, placed_at}
 use Rattle.page.specs.Numerals.{numeral, number_in}
-use Rattle.page.specs.declared.fields.Field.{Field}
-use Rattle.page.specs.declared.fields.Field.TheVariants.{Number, Blank}
-
--- a field as it is handed on: its bytes, its line and its first column
-pub data Seen : Type 0 where
-  number : (bytes : List ℕ) (line column : ℕ) → Seen
-  nothing : (bytes : List ℕ) (line column : ℕ) → Seen
-
-abbrev pub seen : Field → Seen
-seen (Number b line column) = number b.now line column
-seen (Blank b line column) = nothing b.now line column
 
 -- three blanks
 abbrev pub blank : List ℕ → Bool
 blank bs = cond (slice_index bs 0 == 32) (cond (slice_index bs 1 == 32) (slice_index bs 2 == 32) false) false
 
--- three bytes are marked blank if they are three blanks, else number
-abbrev pub marked : List ℕ → ℕ → ℕ → Seen
-marked bs line column = cond (blank bs) (nothing bs line column) (number bs line column)
-
--- field k, from 0, of a line
-abbrev pub field_at : List ℕ → ℕ → ℕ → Seen
-field_at text line k = marked (take 3 (drop (3 * k + 1) text)) line (3 * k + 2)
+-- the three bytes of field k, from 0, of a line
+abbrev pub field_at : List ℕ → ℕ → List ℕ
+field_at text k = take 3 (drop (3 * k + 1) text)
 
 -- the value if it fits, else the refusal that names the field
 abbrev pub if_fits : Option ℕ → ℕ → ℕ → Result (Unit {0}) Misfit → Result (Option ℕ) Named
@@ -43,10 +28,9 @@ abbrev pub read_at : Mark → Option ℕ → ℕ → ℕ → Result (Option ℕ)
 read_at m None line column = Err (refused_at 4 line column)
 read_at m (Some n) line column = fit_at m (Some n) line column
 
--- what stands in a field under a mark, a number or nothing, or the refusal
-abbrev pub value_of : Mark → Seen → Result (Option ℕ) Named
-value_of m (number bs line column) = read_at m (number_in bs) line column
-value_of m (nothing bs line column) = fit_at m None line column
+-- what stands in a field under a mark, or the refusal: nothing in three blanks, in all else a number
+abbrev pub value_of : Mark → List ℕ → ℕ → ℕ → Result (Option ℕ) Named
+value_of m bs line column = cond (blank bs) (fit_at m None line column) (read_at m (number_in bs) line column)
 
 -- a field as it is written: what is not the number of a number's mark is blank
 abbrev pub number_text : Option ℕ → List ℕ

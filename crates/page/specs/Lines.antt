@@ -1,12 +1,12 @@
 -- A line: as it is read, and as it is written.
-use Rattle.std.specs.Prelude.{ℕ, zero, suc, ◌+◌, cond, List, [], ◌∷◌, ◌++◌, length, Ok, Err, Option, Result, ◌==◌, slice_index, slice_index_or}
+use Rattle.std.specs.Prelude.{ℕ, zero, suc, ◌+◌, ◌*◌, cond, List, [], ◌∷◌, ◌++◌, length, Ok, Err, Option, Result, ◌==◌, slice_index, slice_index_or}
+use Rattle.std.specs.Option.{ok_or}
 use Rattle.credential.specs.declared.credentials.Credential.{Credential}
 use Rattle.credential.specs.declared.letters.Letter.{Letter}
-use Rattle.credential.specs.declared.letters.Letter.TheVariants.{Member, Inclusion, Linked, Intersection, Exclusion}
 use Rattle.credential.specs.declared.letters.Mark.{Mark}
 use Rattle.credential.specs.declared.letters.Mark.TheVariants.{Entity as E}
 use Rattle.credential.specs.Refusals.{Named, refused_at, on_ok}
-use Rattle.credential.specs.Letters.{marks_of}
+use Rattle.credential.specs.Letters.{letter_byte, letter_in, marks_of}
 use Rattle.credential.specs.Credentials.{letter_of, fields_of, credential_of}
 use Rattle.page.specs.Fields.{field_at, value_of, field_text}
 
@@ -17,23 +17,11 @@ collected (suc n) f k = on_ok (f k) (λ x. on_ok (collected n f (k + 1)) (λ xs.
 
 -- a letter by its byte
 abbrev pub read_letter : ℕ → ℕ → Result Letter Named
-read_letter b line =
-    cond (b == 77) (Ok Member)
-    (cond (b == 73) (Ok Inclusion)
-    (cond (b == 76) (Ok Linked)
-    (cond (b == 78) (Ok Intersection)
-    (cond (b == 88) (Ok Exclusion) (Err (refused_at 3 line 1))))))
-
-abbrev pub letter_byte : Letter → ℕ
-letter_byte Member = 77
-letter_byte Inclusion = 73
-letter_byte Linked = 76
-letter_byte Intersection = 78
-letter_byte Exclusion = 88
+read_letter b line = ok_or (letter_in b) (refused_at 3 line 1)
 
 -- what stands in field k, from 0, under a row of marks
 abbrev pub read_field : List Mark → List ℕ → ℕ → ℕ → Result (Option ℕ) Named
-read_field ms text line k = value_of (slice_index_or ms k E) (field_at text line k)
+read_field ms text line k = value_of (slice_index_or ms k E) (field_at text k) line (3 * k + 2)
 
 -- what stands in the six fields
 abbrev pub read_fields : List Mark → List ℕ → ℕ → Result (List (Option ℕ)) Named

@@ -1,8 +1,8 @@
 -- A page: as it is read, and as it is written.
-use Rattle.std.specs.Prelude.{ℕ, ◌+◌, ◌*◌, ◌/◌, cond, List, [], ◌∷◌, ◌++◌, length, take, drop, Some, None, Ok, Err, Option, Result, nat_lt}
+use Rattle.std.specs.Prelude.{ℕ, ◌+◌, ◌-◌, ◌*◌, ◌/◌, cond, List, [], ◌∷◌, ◌++◌, length, take, drop, None, Ok, Err, Option, Result, nat_lt}
+use Rattle.std.specs.Result.{result_ok}
 use Rattle.credential.specs.declared.credentials.Credential.{Credential}
-use Rattle.credential.specs.declared.refusals.Refusal.{Refusal}
-use Rattle.credential.specs.Refusals.{Named, refused, refused_at, named}
+use Rattle.credential.specs.Refusals.{Named, refused, refused_at}
 use Rattle.page.specs.Lines.{collected, read_line, line_of}
 
 -- line i, from 0, of a page, which is cut every 20 bytes; the last may be shorter
@@ -26,10 +26,9 @@ list_of (Err e) = []
 abbrev pub credentials_of : List ℕ → List Credential
 credentials_of bytes = list_of (read_page bytes)
 
--- what a reading answers, by its refusal and its page's credentials
-abbrev pub reading : Option Refusal → List Credential → Result (List Credential) Named
-reading None cs = Ok cs
-reading (Some e) cs = Err (named e)
+-- the credential of the line at a place from 1, if the bytes have a whole line there and it is lawful
+abbrev pub credential_at : List ℕ → ℕ → Option Credential
+credential_at bytes place = cond (nat_lt place 1) None (cond (nat_lt (length bytes / 20) place) None (result_ok (line_at bytes (place - 1))))
 
 -- credentials as their page
 unfoldable pub page_of : List Credential → List ℕ

@@ -7,4 +7,4 @@ pub mod numerals;
 pub mod pages;
 
 pub use pages::Page;
-pub use pages::calls::{write_back, write_page};
+pub use pages::calls::{credential_at, write_back, write_page};

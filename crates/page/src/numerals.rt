@@ -14,7 +14,7 @@ fn number_in(columns: &[u8]) -> Option<u32>
     ensures { result ≡ number_in columns.now }
 {
     let width = columns.len();
-    if width < 1 || width > 9 {
+    if !(1..=9).contains(&width) {
         return None;
     }
     let value = read_leading(&columns[0..width - 1])?;
@@ -63,6 +63,7 @@ pub fn write_number(columns: &mut [u8], number: u32)
     let last = width - 1;
     columns[last] = last_digit(number);
     let mut rest = number / 10;
+    // By index: after `iter_mut().rev()`, which was tried, a proof knows nothing of the bytes that were written.
     for i in (0..last).rev() {
         columns[i] = if rest == 0 { b' ' } else { last_digit(rest) };
         rest = rest / 10;

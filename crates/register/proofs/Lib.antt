@@ -1,4 +1,3 @@
-pub mod Places
 pub mod Equality
 pub mod Outcomes
 pub mod Walks

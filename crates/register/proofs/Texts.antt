@@ -1,12 +1,10 @@
 -- A lawful page with a line more, and with a line less.
 use Rattle.std.proofs.Common.{◌≡◌, ℕ, ◌+◌, ◌-◌, ◌*◌, ◌<◌, ◌≤◌, true, List, [], ◌∷◌, ◌++◌, length, take, drop, is_ok, Ok, sym, refl, ap, ◌∙◌, append_assoc, arith, length-append, length-drop}
-use borrow.Rule.Slice.PartMut.{put_mid}
-use Rattle.std.proofs.lemmas.List.{take-append-drop, take_at, drop_at, drop_all, drop-drop, append-nil, length-take-le}
+use Rattle.std.proofs.lemmas.List.{take-append-drop, take_at, drop_at, append-nil, length-take-le}
 use Rattle.credential.specs.declared.credentials.Credential.{Credential}
 use Rattle.page.specs.Lines.{line_of}
-use Rattle.page.specs.Pages.{read_page, list_of, credentials_of, page_of, write_after}
+use Rattle.page.specs.Pages.{read_page, list_of, credentials_of, page_of}
 use Rattle.page.proofs.RoundTrip.{page_forth, page-length}
-use Rattle.page.proofs.Writing.{one_line}
 use Rattle.page.proofs.Paging.{lawful_back}
 
 page-append : (xs ys : List Credential) → page_of (xs ++ ys) ≡ page_of xs ++ page_of ys
@@ -64,31 +62,3 @@ module _ (bs : List ℕ) (lawful : is_ok (read_page bs) ≡ true) where
       ∙ ap (λ (k : ℕ). page_of (take (p - 1) (credentials_of bs)) ++ drop k bs) q
       ∙ ap (λ (t : List ℕ). page_of (take (p - 1) (credentials_of bs)) ++ t) (text_rest p h)
       ∙ sym (page-append (take (p - 1) (credentials_of bs)) (drop p (credentials_of bs))))
-
--- bytes after a part of them is written
-pub part_put : (a k n : ℕ) (xs ys zs : List ℕ) → n ≡ a + k → ys ≡ zs → put_mid a k xs ys ≡ take a xs ++ (zs ++ drop n xs)
-part_put a k n xs ys zs m e =
-    ap (λ (t : List ℕ). put_mid a k xs t) e
-    ∙ ap (λ (t : List ℕ). take a xs ++ (zs ++ t)) (drop-drop k a xs ∙ ap (λ (j : ℕ). drop j xs) (sym m))
-
--- bytes after a line is filled, at the end, and after one is moved to the end and cut off
-pub line_written : (c : Credential) (out : List ℕ) → length out ≡ 20 → write_after (c ∷ []) out ≡ line_of c
-line_written c out h = sym (one_line c out (line_of c) (omega arith) refl) ∙ ap (λ (t : List ℕ). line_of c ++ t) (drop_all 20 out (omega arith)) ∙ append-nil (line_of c)
-
-pub line_put : (bs blanks text : List ℕ) (c : Credential) (n : ℕ) {ys : List ℕ} → ys ≡ take n text ++ (line_of c ++ drop (n + 20) text) → text ≡ bs ++ blanks
-    → length bs ≡ n → length blanks ≡ 20 → ys ≡ bs ++ line_of c
-line_put bs blanks text c n y e h k =
-    let l = length-append bs blanks in
-    y ∙ ap (λ (t : List ℕ). take n t ++ (line_of c ++ drop (n + 20) t)) e
-    ∙ ap (λ (t : List ℕ). t ++ (line_of c ++ drop (n + 20) (bs ++ blanks))) (take_at bs blanks n h)
-    ∙ ap (λ (t : List ℕ). bs ++ (line_of c ++ t)) (drop_all (n + 20) (bs ++ blanks) (omega arith))
-    ∙ ap (λ (t : List ℕ). bs ++ t) (append-nil (line_of c))
-
-pub line_cut : (bs : List ℕ) (at n : ℕ) → at + 20 ≤ length bs → n + 20 ≡ length bs
-    → take n (take at bs ++ (drop (at + 20) bs ++ take 20 (drop at bs))) ≡ take at bs ++ drop (at + 20) bs
-line_cut bs at n h k =
-    let a = length-append (take at bs) (drop (at + 20) bs) in
-    let t = length-take-le at bs (omega arith) in
-    let d = length-drop (at + 20) bs in
-    ap (λ (t : List ℕ). take n t) (sym (append_assoc (take at bs) (drop (at + 20) bs) (take 20 (drop at bs))))
-    ∙ take_at (take at bs ++ drop (at + 20) bs) (take 20 (drop at bs)) n (omega arith)

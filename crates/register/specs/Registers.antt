@@ -1,8 +1,19 @@
 -- What a register answers, and what it holds after each call.
-use Rattle.std.specs.Prelude.{ℕ, ◌-◌, Bool, cond, ◌&&◌, List, [], ◌∷◌, ◌++◌, length, take, drop, Ok, Err, Result, ◌==◌, nat_le}
+use Rattle.std.specs.Prelude.{ℕ, ◌-◌, ◌≤◌, Bool, false, cond, ◌&&◌, List, [], ◌∷◌, ◌++◌, length, take, drop, Ok, Err, Result, ◌==◌, nat_le}
+use Rattle.std.proofs.Common.{lit≤}
 use Rattle.credential.specs.declared.credentials.Credential.{Credential}
 use Rattle.credential.specs.Refusals.{Named, refused}
 use Rattle.register.specs.Standing.{stands}
+
+-- a capacity is from 1 to 192
+abbrev pub IsCapacity : ℕ → Type 0
+IsCapacity n = (1 ≤ n) × (n ≤ 192)
+
+pub capacity_of_records : IsCapacity 192
+capacity_of_records = (lit≤ tt, lit≤ tt)
+
+pub capacity_of_text : IsCapacity 128
+capacity_of_text = (lit≤ tt, lit≤ tt)
 
 -- a call's answer, and the list after it
 pub record Outcome : Type 0 where
@@ -20,7 +31,15 @@ admitted standing full = cond standing (Err (refused 6)) (cond full (Err (refuse
 
 -- publishing c into a register of that capacity puts it at the end
 unfoldable pub published : ℕ → List Credential → Credential → Outcome
-published limit xs c = becoming xs (xs ++ c ∷ []) (admitted (stands xs c) (length xs == limit))
+published capacity xs c = becoming xs (xs ++ c ∷ []) (admitted (stands xs c) (length xs == capacity))
+
+-- one more is refused if the register is full
+abbrev pub roomy : (count capacity : ℕ) → Result (Unit {0}) Named
+roomy count capacity = admitted false (count == capacity)
+
+-- putting c at the end of a register of that capacity, whether it stands or not
+unfoldable pub appended : ℕ → List Credential → Credential → Outcome
+appended capacity xs c = becoming xs (xs ++ c ∷ []) (roomy (length xs) capacity)
 
 -- a place is refused outside 1 to the count
 abbrev pub located : (place count : ℕ) → Result (Unit {0}) Named

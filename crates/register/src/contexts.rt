@@ -26,10 +26,7 @@ impl<'a, S: Source> Source for Context<'a, S> {
     }
 
     fn at(&self, place: usize) -> Option<Credential> {
-        match self.source.at(place) {
-            Some(credential) => Some(include(credential)),
-            None => None,
-        }
+        self.source.at(place).map(include)
     }
 }
 

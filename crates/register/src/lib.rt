@@ -10,5 +10,5 @@ pub mod tallies;
 pub use contexts::Context;
 pub use page_text::PageText;
 pub use record_list::RecordList;
-pub use registers::{Register, admit, locate, stands};
+pub use registers::{Register, locate, room, stands};
 pub use tallies::{Tally, publish_all};

@@ -1,7 +1,8 @@
 // A register that keeps its list as records.
-ghost use Rattle.std.specs.Prelude.{◌≡◌, ◌+◌, ◌<◌, ◌≤◌, [], ◌∷◌, ◌++◌, length, take, drop, IfOk, vec_len, vec_capacity, ◌==◌};
+ghost use Rattle.std.specs.Prelude.{◌≡◌, ◌≤◌, [], length, IfOk, vec_capacity};
+ghost use Rattle.register.specs.Registers.{capacity_of_records};
 
-use crate::registers::{Register, admit, locate, stands};
+use crate::registers::{Register, locate, room};
 use credential::{Credential, Refusal, Source};
 use std::alloc::{AllocError, Global};
 
@@ -9,7 +10,7 @@ use std::alloc::{AllocError, Global};
 #[derive(Drop)]
 pub struct RecordList {
     records: Vec<Credential>,
-    ghost within: { vec_len records ≤ 192 },
+    ghost within: { length records.items ≤ 192 },
     ghost room: { 192 ≤ vec_capacity records },
 }
 
@@ -21,12 +22,6 @@ impl RecordList {
         let records = Vec::with_capacity(heap, Self::CAPACITY)?;
         Ok(RecordList { records })
     }
-
-    fn is_full(&self) -> bool
-        ensures { result ≡ (length self.now.records.items == 192) }
-    {
-        self.count() == Self::CAPACITY
-    }
 }
 
 impl Source for RecordList {
@@ -37,51 +32,29 @@ impl Source for RecordList {
     }
 
     fn at(&self, place: usize) -> Option<Credential> {
-        if place == 0 || place > self.records.len() {
-            return None;
-        }
-        Some(self.records[place - 1])
+        let index = place.checked_sub(1)?;
+        self.records.get(index).copied()
     }
 }
 
 impl Register for RecordList {
     const CAPACITY: usize = 192;
 
-    ghost limit = { 192 };
+    ghost CAPACITY = { 192 };
 
-    fn most(&self) -> usize {
-        Self::CAPACITY
-    }
+    ghost sized = { capacity_of_records };
 
-    fn publish(&mut self, credential: Credential) -> Result<(), Refusal> {
-        admit(stands(self, credential), self.is_full())?;
-        put_last(&mut self.records, credential);
+    ghost within = { λ s. s.within };
+
+    fn append(&mut self, credential: Credential) -> Result<(), Refusal> {
+        room(self.count(), Self::CAPACITY)?;
+        self.records.push_reserved(credential);
         Ok(())
     }
 
     fn withdraw(&mut self, place: usize) -> Result<(), Refusal> {
         locate(place, self.count())?;
-        take_out(&mut self.records, place - 1);
+        let _taken = self.records.remove(place - 1);
         Ok(())
     }
-}
-
-// Puts a credential at the end, in memory that is there.
-fn put_last(records: &mut Vec<Credential>, credential: Credential)
-    requires { vec_len records.old < vec_capacity records.old }
-    ensures items { records.new.items ≡ records.old.items ++ credential ∷ [] }
-    ensures len { vec_len records.new ≡ vec_len records.old + 1 }
-    ensures capacity { vec_capacity records.old ≤ vec_capacity records.new }
-{
-    records.push_reserved(credential);
-}
-
-// Takes one out, and keeps the order of the others.
-fn take_out(records: &mut Vec<Credential>, index: usize)
-    requires { index < vec_len records.old }
-    ensures items { records.new.items ≡ take index records.old.items ++ drop (index + 1) records.old.items }
-    ensures len { vec_len records.new + 1 ≡ vec_len records.old }
-    ensures capacity { vec_capacity records.old ≤ vec_capacity records.new }
-{
-    let _taken = records.remove(index);
 }

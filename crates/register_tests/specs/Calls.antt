@@ -1,7 +1,7 @@
 -- What a register answers to a list of calls, and what it holds after them.
-use Rattle.std.specs.Prelude.{ℕ, List, [], ◌∷◌, ◌++◌, Some, None, Ok, Err, Option, Result}
+use Rattle.std.specs.Prelude.{ℕ, List, [], ◌∷◌, ◌++◌, Result}
 use Rattle.credential.specs.declared.credentials.Credential.{Credential}
-use Rattle.credential.specs.Refusals.{Named, number_in}
+use Rattle.credential.specs.Refusals.{Named}
 use Rattle.register.specs.Registers.{Outcome, published, withdrawn}
 use Rattle.register_tests.specs.declared.Call.{Call}
 use Rattle.register_tests.specs.declared.Call.TheVariants.{Publish, Withdraw}
@@ -10,14 +10,9 @@ abbrev pub called : ℕ → List Credential → Call → Outcome
 called limit xs (Publish c) = published limit xs c
 called limit xs (Withdraw p) = withdrawn xs p
 
--- the number of a refusal
-abbrev pub number_answered : Result (Unit {0}) Named → Option ℕ
-number_answered (Ok u) = None
-number_answered (Err e) = Some (number_in e)
-
 -- the answers that a register has given, and its list
 pub record Driven : Type 0 where
-  pub answers : List (Option ℕ)
+  pub answers : List (Result (Unit {0}) Named)
   pub list : List Credential
 
 abbrev pub undriven : List Credential → Driven
@@ -25,7 +20,7 @@ undriven xs = record { answers = []; list = xs }
 
 abbrev pub driven_by : ℕ → Driven → Call → Driven
 driven_by limit d call = record {
-  answers = d.answers ++ number_answered (called limit d.list call).answer ∷ [];
+  answers = d.answers ++ (called limit d.list call).answer ∷ [];
   list = (called limit d.list call).list;
 }
 

@@ -1,9 +1,9 @@
 // One driver for every register: it carries out a list of calls and gives the answers and the list after them.
 #![tactic(auto)]
 
-ghost use Rattle.std.specs.Prelude.{◌≡◌, IfOk, MatchResult};
+ghost use Rattle.std.specs.Prelude.{◌≡◌, map, IfOk, MatchResult};
 ghost use Rattle.credential.specs.Refusals.{answered};
-ghost use Rattle.register_tests.specs.Calls.{called, number_answered, undriven, driven};
+ghost use Rattle.register_tests.specs.Calls.{called, undriven, driven};
 
 use credential::{Credential, Refusal, Source};
 use register::Register;
@@ -21,10 +21,10 @@ pub enum Call {
     Withdraw(usize),
 }
 
-// Carries out one call.
+// Carries out one call. A call is plain data, so that a list of calls can be written down and compared.
 pub fn carry_out<R: Register>(register: &mut R, call: Call) -> Result<(), Refusal>
-    ensures answer { answered result ≡ (called R.Register.limit (R.Source.list register.old) call).answer }
-    ensures list { R.Source.list register.new ≡ (called R.Register.limit (R.Source.list register.old) call).list }
+    ensures answer { answered result ≡ (called R.Register.CAPACITY (R.Source.list register.old) call).answer }
+    ensures list { R.Source.list register.new ≡ (called R.Register.CAPACITY (R.Source.list register.old) call).list }
 {
     match call {
         Call::Publish(credential) => register.publish(credential),
@@ -32,43 +32,27 @@ pub fn carry_out<R: Register>(register: &mut R, call: Call) -> Result<(), Refusa
     }
 }
 
-// Carries out the calls in order, and gives for each the number of its refusal, if it was refused.
+// Carries out the calls in order, and gives the answer of each.
 pub fn drive<R: Register>(
     heap: Global,
     register: &mut R,
     calls: &[Call],
-) -> Result<Vec<Option<u8>>, AllocError>
-    ensures answers { IfOk result (λ v. v.items ≡ (driven R.Register.limit (undriven (R.Source.list register.old)) calls.now).answers) }
+) -> Result<Vec<Result<(), Refusal>>, AllocError>
+    ensures answers { IfOk result (λ v. map answered v.items ≡ (driven R.Register.CAPACITY (undriven (R.Source.list register.old)) calls.now).answers) }
     ensures list { MatchResult result
-        (λ _. R.Source.list register.new ≡ (driven R.Register.limit (undriven (R.Source.list register.old)) calls.now).list)
+        (λ _. R.Source.list register.new ≡ (driven R.Register.CAPACITY (undriven (R.Source.list register.old)) calls.now).list)
         (λ _. R.Source.list register.new ≡ R.Source.list register.old) }
 {
     let mut answers = Vec::with_capacity(heap, calls.len())?;
     for call in calls {
-        let answer = carry_out(register, *call);
-        answers.push_reserved(number(answer));
+        answers.push_reserved(carry_out(register, *call));
     }
     Ok(answers)
-}
-
-fn number(answer: Result<(), Refusal>) -> Option<u8>
-    ensures { result ≡ number_answered (answered answer) }
-{
-    match answer {
-        Ok(()) => None,
-        Err(refusal) => Some(refusal.number()),
-    }
 }
 
 // The list of a source.
 pub fn list<S: Source>(heap: Global, source: &S) -> Result<Vec<Credential>, AllocError>
     ensures { IfOk result (λ v. v.items ≡ S.Source.list source.now) }
 {
-    let mut credentials = Vec::new(heap);
-    for index in 0..source.count() {
-        if let Some(credential) = source.at(index + 1) {
-            credentials.push(credential)?;
-        }
-    }
-    Ok(credentials)
+    source.credentials().collect(heap)
 }

@@ -1,4 +1,4 @@
-// Every register on trial.
+// Every register on trial: a test for each kind, so that a failure names it.
 use crate::list;
 use crate::trials::{behaves, fills};
 use credential::{Credential, Letter};

@@ -1,6 +1,6 @@
 // What every register must answer, whatever its kind: one list of calls, and filling it.
 use crate::{Call, drive, list};
-use credential::{Credential, Letter, Refusal};
+use credential::{Credential, Letter, Membership, Refusal};
 use register::Register;
 use std::alloc::Global;
 use std::process::Abort;
@@ -33,15 +33,15 @@ pub(crate) fn behaves<R: Register>(
     ];
     let answers = drive(heap, register, &calls)?;
     let expected = [
-        Some(8),
-        None,
-        None,
-        Some(6),
-        None,
-        Some(8),
-        Some(8),
-        None,
-        None,
+        Err(Refusal::NoSuchPlace),
+        Ok(()),
+        Ok(()),
+        Err(Refusal::AlreadyStands),
+        Ok(()),
+        Err(Refusal::NoSuchPlace),
+        Err(Refusal::NoSuchPlace),
+        Ok(()),
+        Ok(()),
     ];
     assert_eq!(rt; answers.as_slice(), expected.as_slice());
     let list = list(heap, register)?;
@@ -56,8 +56,11 @@ pub(crate) fn fills<R: Register>(
     register: &mut R,
 ) -> Result<(), Fail> {
     let most = register.most();
-    for number in 0..most as u32 {
-        let credential = member(1, number / 32 + 1, number % 32 + 1)?;
+    for membership in (0..most).filter_map(Membership::at) {
+        let credential = Credential::Member {
+            head: membership.role,
+            member: membership.member,
+        };
         assert!(rt; register.publish(credential).is_ok());
     }
     let [standing, other] = [member(1, 1, 1)?, member(2, 1, 1)?];
@@ -69,9 +72,13 @@ pub(crate) fn fills<R: Register>(
         Call::Publish(other),
     ];
     let answers = drive(heap, register, &calls)?;
-    assert_eq!(rt;
-        answers.as_slice(),
-        [Some(7), Some(6), Some(8), None, None].as_slice()
-    );
+    let expected = [
+        Err(Refusal::RegisterFull),
+        Err(Refusal::AlreadyStands),
+        Err(Refusal::NoSuchPlace),
+        Ok(()),
+        Ok(()),
+    ];
+    assert_eq!(rt; answers.as_slice(), expected.as_slice());
     Ok(())
 }

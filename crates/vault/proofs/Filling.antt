@@ -1,5 +1,5 @@
 -- A statement's buffer as it is filled, and the sums of its rows.
-use Rattle.std.proofs.Common.{◌≡◌, ℕ, suc, ◌+◌, ◌-◌, ◌*◌, ◌<◌, ◌≤◌, eqb, ltb, List, [], ◌∷◌, ◌++◌, map, length, get_or, drop, set, sym, refl, ap, ◌∙◌, subst, append_assoc, add-one, arith}
+use Rattle.std.proofs.Common.{zero, ◌≡◌, ℕ, suc, ◌+◌, ◌-◌, ◌*◌, ◌<◌, ◌≤◌, eqb, ltb, List, [], ◌∷◌, ◌++◌, map, length, get_or, drop, set, sym, refl, ap, ◌∙◌, subst, append_assoc, add-one, arith}
 use borrow.Rule.Slice.PartMut.{put_mid}
 use Rattle.std.proofs.lemmas.List.{append-nil, length-append, drop_more, drop_all, set_at, get_or-map}
 use Rattle.std.proofs.lemmas.Bool.{cond-false, cond-true, le-ltb, eq-eqb, ne_eqb}
@@ -144,3 +144,11 @@ statement_filled us ts end w out xs ys h s e y l x =
           ∙ ap (λ (k : ℕ). statement_of us ts ++ drop k out) n
           ∙ sym (cond-false (ltb (length out) 663) _ _ (le-ltb (length out) 663 h)),
     )
+
+-- the first of what is left behind n, and the rest of it
+pub first_left : {X : Type 0} (xs : List X) (n : ℕ) (x : X) (rest : List X) → x ∷ rest ≡ drop n xs
+    → (n < length xs) × (((d : X) → x ≡ get_or xs n d) × (rest ≡ drop (suc n) xs))
+first_left [] zero x rest e = absurd (let z : ◌≡◌ {A = ℕ} 0 1 = cc in omega arith)
+first_left [] (suc n) x rest e = absurd (let z : ◌≡◌ {A = ℕ} 0 1 = cc in omega arith)
+first_left (y ∷ ys) zero x rest e = let q : x ≡ y = cc in let r : rest ≡ ys = cc in (omega arith, (λ d. q, r))
+first_left (y ∷ ys) (suc n) x rest e = let h = first_left ys n x rest e in (omega (arith, h.0), h.1)

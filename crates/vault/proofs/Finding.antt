@@ -1,59 +1,41 @@
--- The steps of a search through the book, of a count over it, and of a change of one record.
-use Rattle.std.proofs.Common.{◌≡◌, ℕ, ◌+◌, ◌<◌, ◌≤◌, Bool, true, false, List, map, length, get_or, drop, set, Some, None, sym, refl, ap, ◌∙◌, arith}
-use Rattle.std.proofs.lemmas.List.{at_drop_more, at_drop_all, get_or-map, length-map, map-set}
-use Rattle.std.proofs.lemmas.Bool.{cond-true, cond-false}
-use Rattle.history.specs.Words.{total, one_if, for}
+-- A search through the book, a count over it, and a change of one record.
+use Rattle.std.proofs.Common.{◌≡◌, ℕ, ◌+◌, ◌<◌, Bool, true, false, cond, eqb, List, [], ◌∷◌, map, length, get_or, set, position, count_by, Some, Option, sym, refl, ap, ◌∙◌, arith}
+use Rattle.std.specs.List.{position_from}
+use Rattle.std.proofs.lemmas.List.{get_or-map, map-set}
+use Rattle.std.proofs.lemmas.List.Recursion.{is_count_by}
+use Rattle.std.proofs.lemmas.Iterator.Adapters.{position_from-zero}
+use Rattle.history.specs.Words.{one_if, for}
 use Rattle.history.specs.Contents.{Entry, is_free, is_offered, is_held, opened, in_book}
 use Rattle.vault.specs.declared.book.Record.{Record}
 use Rattle.vault.specs.declared.book.Turn.{Turn}
-use Rattle.vault.specs.Entries.{entry, goes, turned, open_lease, is_for, first, first_from}
+use Rattle.vault.specs.Entries.{entry, goes, turned, open_lease, is_for}
 
 -- the entry of the record that is read
 pub entry_read : (rs : List Record) (i : ℕ) (x : Record) → i < length rs → x ≡ get_or rs i x → get_or (map entry rs) i is_free ≡ entry x
 entry_read rs i x h e = get_or-map entry rs i x is_free h ∙ ap entry (sym e)
 
-more : (rs : List Record) (i : ℕ) → i < length rs → i < length (map entry rs)
-more rs i h = omega (arith, length-map rs entry)
+-- a search of the records is one of their entries
+searched_from : (p : Entry → Bool) (k : ℕ) (rs : List Record) → position_from (λ r. p (entry r)) k rs ≡ position_from p k (map entry rs)
+searched_from p k [] = refl
+searched_from p k (r ∷ rs) = ap (λ (o : Option ℕ). cond (p (entry r)) (Some k) o) (searched_from p (k + 1) rs)
 
-module _ (p : Entry → Bool) (rs : List Record) (i : ℕ) where
-  pub found_here : (x : Record) → i < length rs → x ≡ get_or rs i x → first p (map entry rs) ≡ first_from p i (drop i (map entry rs)) → true ≡ p (entry x)
-      → Some i ≡ first p (map entry rs)
-  unfolding first_from
-  found_here x h e q t =
-      sym (q ∙ at_drop_more (first_from p i) (map entry rs) i is_free (more rs i h)
-      ∙ cond-true (p (get_or (map entry rs) i is_free)) _ _ (ap p (entry_read rs i x h e) ∙ sym t))
+pub searched : (p : Entry → Bool) (rs : List Record) → position (λ r. p (entry r)) rs ≡ position p (map entry rs)
+searched p rs = position_from-zero (λ r. p (entry r)) rs ∙ searched_from p 0 rs ∙ sym (position_from-zero p (map entry rs))
 
-  pub not_here : (x : Record) → i < length rs → x ≡ get_or rs i x → first p (map entry rs) ≡ first_from p i (drop i (map entry rs)) → false ≡ p (entry x)
-      → first p (map entry rs) ≡ first_from p (i + 1) (drop (i + 1) (map entry rs))
-  unfolding first_from
-  not_here x h e q t =
-      q ∙ at_drop_more (first_from p i) (map entry rs) i is_free (more rs i h)
-      ∙ cond-false (p (get_or (map entry rs) i is_free)) _ _ (ap p (entry_read rs i x h e) ∙ sym t)
+-- the open records of a role name are counted
+one_if_more : (b : Bool) (n : ℕ) → one_if b + n ≡ cond b (1 + n) n
+one_if_more true n = refl
+one_if_more false n = omega arith
 
-  pub nowhere : length rs ≤ i → first p (map entry rs) ≡ first_from p i (drop i (map entry rs)) → None ≡ first p (map entry rs)
-  unfolding first_from
-  nowhere h q = sym (q ∙ at_drop_all (first_from p i) (map entry rs) i (omega (arith, length-map rs entry)))
+one_open : (r : ℕ) (e : Entry) (n : ℕ) → opened (λ l b. for r l) e + n ≡ cond (is_for r (open_lease e)) (1 + n) n
+one_open r is_free n = omega arith
+one_open r (is_offered x) n = one_if_more (eqb x.membership.role.name.number r) n
+one_open r (is_held x) n = one_if_more (eqb x.membership.role.name.number r) n
 
--- one more record counted
-one_open : (r : ℕ) (e : Entry) → opened (λ l b. for r l) e ≡ one_if (is_for r (open_lease e))
-one_open r is_free = refl
-one_open r (is_offered x) = refl
-one_open r (is_held x) = refl
-
-pub counted : (r : ℕ) (rs : List Record) (i n : ℕ) (x : Record) (t : Bool) → i < length rs → x ≡ get_or rs i x → t ≡ is_for r (open_lease (entry x))
-    → n + in_book (λ l b. for r l) (drop i (map entry rs)) ≡ in_book (λ l b. for r l) (map entry rs)
-    → n + one_if t + in_book (λ l b. for r l) (drop (i + 1) (map entry rs)) ≡ in_book (λ l b. for r l) (map entry rs)
-counted r rs i n x t h e k q =
-    let w : Entry → ℕ = opened (λ l b. for r l) in
-    let s : total w (drop i (map entry rs)) ≡ w (get_or (map entry rs) i is_free) + total w (drop (i + 1) (map entry rs)) = at_drop_more (total w) (map entry rs) i is_free (more rs i h) in
-    let v : w (get_or (map entry rs) i is_free) ≡ one_if t = ap w (entry_read rs i x h e) ∙ one_open r (entry x) ∙ ap one_if (sym k) in
-    omega arith
-
-pub all-counted : (r : ℕ) (rs : List Record) (i n : ℕ) → length rs ≤ i
-    → n + in_book (λ l b. for r l) (drop i (map entry rs)) ≡ in_book (λ l b. for r l) (map entry rs) → n ≡ in_book (λ l b. for r l) (map entry rs)
-all-counted r rs i n h q =
-    let s : total (opened (λ l b. for r l)) (drop i (map entry rs)) ≡ 0 = at_drop_all (total (opened (λ l b. for r l))) (map entry rs) i (omega (arith, length-map rs entry)) in
-    omega arith
+pub counted : (r : ℕ) (rs : List Record) → in_book (λ l b. for r l) (map entry rs) ≡ count_by (λ x. is_for r (open_lease (entry x))) rs
+counted r rs =
+    is_count_by (λ (xs : List Record). in_book (λ l b. for r l) (map entry xs)) (λ x. is_for r (open_lease (entry x))) refl
+    (λ x xs. one_open r (entry x) (in_book (λ l b. for r l) (map entry xs))) rs
 
 -- one record changed
 pub one_turned : (rs : List Record) (i : ℕ) (x y : Record) (call : Turn) → i < length rs → x ≡ get_or rs i x → entry y ≡ turned (entry x) call

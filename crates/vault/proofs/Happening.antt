@@ -1,6 +1,6 @@
 -- What the calls on a vault's register are in its history.
 use Rattle.std.proofs.Common.{◌≡◌, ℕ, ◌-◌, ◌≤◌, Bool, true, false, cond, ◌&&◌, ◌||◌, eqb, leb, List, [], ◌∷◌, ◌++◌, length, take, drop, Ok, Err, Decides, Result, sym, refl, ap, ◌∙◌, subst, inl, inr, arith}
-use mathlib.Core.Option.{none}
+use mathlib.Core.Option.{Option, none}
 use Rattle.std.proofs.lemmas.List.{length-append}
 use Rattle.std.proofs.lemmas.Bool.{eqb-true, leb-true, leb-false}
 use Rattle.credential.specs.declared.credentials.Credential.{Credential}
@@ -29,7 +29,6 @@ same_refusal q = cc
 
 -- a credential stands exactly if it is among those of the list
 stands-among : (xs : List Credential) (c : Credential) → Decides (stands xs c) (Among c xs)
-unfolding stands
 stands-among [] c = ((λ q. let z : ◌≡◌ {A = ℕ} 0 1 = cc in absurd (omega arith)), λ n. absurd n)
 stands-among (x ∷ xs) c = go (same x c) refl (stands-among xs c)
   where
@@ -46,18 +45,18 @@ not_among xs c q n = let t : stands xs c ≡ true = (stands-among xs c).1 n in l
 
 module _ (v : Contents) (c : Credential) (r : Result (Unit {0}) Named) (ys : List Credential)
     (a : r ≡ (published v.capacity v.list c).answer) (l : ys ≡ (published v.capacity v.list c).list) where
-  pub publish_taken : {u : Unit {0}} → r ≡ Ok u → length ys ≤ v.capacity → Happened v (events.published c) (relisted ys none v)
+  pub publish_taken : (ks : Option (List ℕ)) → ks ≡ none → {u : Unit {0}} → r ≡ Ok u → length ys ≤ v.capacity → Happened v (events.published c) (relisted ys ks v)
   unfolding published
-  publish_taken q w = go (stands v.list c) (eqb (length v.list) v.capacity) refl refl (sym q ∙ a) l
+  publish_taken ks k q w = go (stands v.list c) (eqb (length v.list) v.capacity) refl refl (sym q ∙ a) l
     where
       go : (s f : Bool) → stands v.list c ≡ s → eqb (length v.list) v.capacity ≡ f → Ok tt ≡ (becoming v.list (v.list ++ c ∷ []) (admitted s f)).answer
-          → ys ≡ (becoming v.list (v.list ++ c ∷ []) (admitted s f)).list → Happened v (events.published c) (relisted ys none v)
+          → ys ≡ (becoming v.list (v.list ++ c ∷ []) (admitted s f)).list → Happened v (events.published c) (relisted ys ks v)
       go true f s e p m = never p
       go false true s e p m = never p
       go false false s e p m =
-          happened v (relisted ys none v) (events.published c) tt
+          happened v (relisted ys ks v) (events.published c) tt
           (not_among v.list c s, omega (arith, w, ap length m, length-append v.list (c ∷ [])))
-          (ap (λ (zs : List Credential). relisted zs none v) m)
+          (λ j. relisted (m j) (k j) v)
 
   pub publish-refused : (e : Named) → r ≡ Err e → Happened v (events.refused (events.publish c) e) (relisted ys v.kept v)
   unfolding published
@@ -79,13 +78,13 @@ module _ (v : Contents) (p : ℕ) (r : Result (Unit {0}) Named) (ys : List Crede
   abbrev left_of : Bool → Outcome
   left_of b = becoming v.list (take (p - 1) v.list ++ drop p v.list) (cond b (Ok tt) (Err (refused 8)))
 
-  pub withdraw_taken : {u : Unit {0}} → r ≡ Ok u → Happened v (events.withdrawn p) (relisted ys none v)
+  pub withdraw_taken : (ks : Option (List ℕ)) → ks ≡ none → {u : Unit {0}} → r ≡ Ok u → Happened v (events.withdrawn p) (relisted ys ks v)
   unfolding withdrawn
-  withdraw_taken q = go (leb 1 p) (leb p (length v.list)) refl refl (sym q ∙ a) l
+  withdraw_taken ks k q = go (leb 1 p) (leb p (length v.list)) refl refl (sym q ∙ a) l
     where
-      go : (s t : Bool) → leb 1 p ≡ s → leb p (length v.list) ≡ t → Ok tt ≡ (left_of (s && t)).answer → ys ≡ (left_of (s && t)).list → Happened v (events.withdrawn p) (relisted ys none v)
-      go true true s t k m =
-          happened v (relisted ys none v) (events.withdrawn p) tt (leb-true 1 p s, leb-true p (length v.list) t) (ap (λ (zs : List Credential). relisted zs none v) m)
+      go : (s t : Bool) → leb 1 p ≡ s → leb p (length v.list) ≡ t → Ok tt ≡ (left_of (s && t)).answer → ys ≡ (left_of (s && t)).list → Happened v (events.withdrawn p) (relisted ys ks v)
+      go true true s t e m =
+          happened v (relisted ys ks v) (events.withdrawn p) tt (leb-true 1 p s, leb-true p (length v.list) t) (λ j. relisted (m j) (k j) v)
       go true false s t k m = never k
       go false true s t k m = never k
       go false false s t k m = never k

@@ -6,3 +6,4 @@ pub mod Happening
 pub mod Turning
 pub mod Standing
 pub mod Stating
+pub mod Calls

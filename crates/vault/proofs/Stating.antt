@@ -16,7 +16,7 @@ use Rattle.vault.specs.Statements.{statement_of, givens, declineds, handed_backs
 use Rattle.vault.specs.Ledgers.{AllTallied}
 use Rattle.vault.specs.Vaults.{Happened, OfferedByNumbers}
 use Rattle.vault.proofs.Happening.{happened}
-use Rattle.vault.proofs.Turning.{ledger_of}
+use Rattle.vault.specs.Settling.{ledger_of}
 
 no_tally : Tally
 no_tally = record { given = 0; declined = 0; handed_back = 0; «open» = 0; given_few = omega arith; declined_few = omega arith; handed_back_few = omega arith; open_few = omega arith }
@@ -26,7 +26,7 @@ agrees : (f : Tally → ℕ) (h : ℕ → ℕ) (ts : List Tally) → length ts �
 agrees f h ts l e r low high =
     get_or-map f ts (r - 1) no_tally 0 (omega arith) ∙ e (r - 1) no_tally (omega arith) ∙ ap h (omega arith)
 
-pub same-statement : (us : List ℕ) (v : Contents) (ts : List Tally) → AllTallied 16 (ledger_of v) ts → statement_of us ts ≡ statement us v
+pub same-statement : (us : List ℕ) (v : Contents) (ts : List Tally) → AllTallied (ledger_of v) ts → statement_of us ts ≡ statement us v
 unfolding statement_of
 same-statement us v ts t =
     stated-same (figure us) (givens ts) (declineds ts) (handed_backs ts) (opens ts)
@@ -36,10 +36,10 @@ same-statement us v ts t =
     (agrees (λ (t : Tally). t.handed_back) (figure v.figures.handed_backs) ts t.0 (λ i d h. (t.1 i d h).2))
     (agrees (λ (t : Tally). t.«open») (λ r. in_book (λ l b. for r l) v.book) ts t.0 (λ i d h. (t.1 i d h).3))
 
-pub numbers-refused : (v : Contents) (a r d : ℕ) (e : Named) → Err e ≡ membership_of a r d → OfferedByNumbers a r d (membership_of a r d) v (Err e) v
-numbers-refused v a r d e q = go (membership_of a r d) q (numbers_tell a r d)
+pub numbers-refused : (S : Type 0) (v : Contents) (a r d : ℕ) (e : Named) → Err e ≡ membership_of a r d → OfferedByNumbers {S = S} a r d (membership_of a r d) v (Err e) v
+numbers-refused S v a r d e q = go (membership_of a r d) q (numbers_tell a r d)
   where
-    go : (x : Result Membership Named) → Err e ≡ x → Numbered a r d x → OfferedByNumbers a r d x v (Err e) v
+    go : (x : Result Membership Named) → Err e ≡ x → Numbered a r d x → OfferedByNumbers {S = S} a r d x v (Err e) v
     go (Ok m) p n = let z : ◌≡◌ {A = ℕ} 0 1 = cc in absurd (omega arith)
     go (Err f) p n =
         let s : e ≡ f = cc in

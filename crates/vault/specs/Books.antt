@@ -5,4 +5,4 @@ use Rattle.vault.specs.declared.book.Book.{Book}
 use Rattle.vault.specs.Entries.{entry}
 
 abbrev pub entries : Book → List Entry
-entries b = map entry (vec_items b.table.records)
+entries b = map entry (vec_items b.records)

@@ -1,11 +1,13 @@
--- A record as an entry of the book, what a call does to it, and which is found first.
-use Rattle.std.specs.Prelude.{◌≡◌, ℕ, ◌+◌, ◌<◌, Bool, false, cond, not, List, [], ◌∷◌, length, is_some, Some, None, Option, ◌==◌}
+-- A record as an entry of the book, and what a call does to it.
+use Rattle.std.specs.Prelude.{◌≡◌, ℕ, Bool, false, not, List, is_some, Some, None, Option, ◌==◌, slice_set}
 use Rattle.history.specs.Words as words
-use Rattle.history.specs.Contents.{Entry, is_free, is_offered, is_held, record_of, in_book}
-use Rattle.history.specs.Steps.{FirstFree, RecordOf}
+use Rattle.history.specs.Contents.{Entry, is_free, is_offered, is_held}
+use Rattle.history.specs.Steps.{RecordOf}
 use Rattle.vault.specs.declared.book.Lease.{Lease}
 use Rattle.vault.specs.declared.book.Record.{Record}
 use Rattle.vault.specs.declared.book.Record.TheVariants.{Free, Offered, Held}
+use Rattle.vault.specs.declared.book.State.{State}
+use Rattle.vault.specs.declared.book.State.TheVariants as s
 use Rattle.vault.specs.declared.book.Turn.{Turn}
 use Rattle.vault.specs.declared.book.Turn.TheVariants.{Offer, Draw, Decline, HandBack}
 
@@ -44,20 +46,18 @@ or_left e (Some f) = f
 abbrev pub turned : Entry → Turn → Entry
 turned e t = or_left e (after e t)
 
--- the entry with its lease held
-abbrev pub as_held : Entry → Entry
-as_held is_free = is_free
-as_held (is_offered x) = is_held x
-as_held (is_held x) = is_held x
+-- the entry of an open lease in a state
+abbrev pub in_state : State → words.Lease → Entry
+in_state s.Offered x = is_offered x
+in_state s.Held x = is_held x
 
--- the lease with a serial, held or not yet, if the entry has it
-abbrev pub lease_in : ℕ → Bool → Entry → Option words.Lease
-lease_in n b is_free = None
-lease_in n b (is_offered x) = cond b None (cond (x.serial == n) (Some x) None)
-lease_in n b (is_held x) = cond b (cond (x.serial == n) (Some x) None) None
-
-abbrev pub is_of : ℕ → Bool → Entry → Bool
-is_of n b e = is_some (lease_in n b e)
+-- the entry has the lease with a serial in a state
+abbrev pub is_of : ℕ → State → Entry → Bool
+is_of n t is_free = false
+is_of n s.Offered (is_offered x) = x.serial == n
+is_of n s.Held (is_offered x) = false
+is_of n s.Offered (is_held x) = false
+is_of n s.Held (is_held x) = x.serial == n
 
 -- the lease that was read, if any
 abbrev pub read : Option Lease → Option words.Lease
@@ -78,25 +78,8 @@ abbrev pub is_for : ℕ → Option words.Lease → Bool
 is_for r None = false
 is_for r (Some x) = x.membership.role.name.number == r
 
--- the first index from k on at which the test holds
-unfoldable pub first_from : {X : Type 0} → (X → Bool) → ℕ → List X → Option ℕ
-first_from p k [] = None
-first_from p k (x ∷ xs) = cond (p x) (Some k) (first_from p (k + 1) xs)
-
-abbrev pub first : {X : Type 0} → (X → Bool) → List X → Option ℕ
-first p xs = first_from p 0 xs
-
--- the index that was found, if any
-abbrev pub index : Option (ℕ × Lease) → Option ℕ
-index None = None
-index (Some q) = Some q.0
-
--- what a search for the lease with a serial found: its record and the lease, or that there is none
-abbrev pub Found : List Entry → ℕ → Bool → Option (ℕ × Lease) → Type 0
-Found es n b None = (i : ℕ) (x : words.Lease) → RecordOf (record_of b) es n i x → ⊥
-Found es n b (Some q) = RecordOf (record_of b) es n q.0 (lease q.1)
-
--- what a search for a free record found: the first, in a book that is not full, or that all are open
-abbrev pub Spare : List Entry → Option ℕ → Type 0
-Spare es None = in_book (λ x b. 1) es ≡ length es
-Spare es (Some i) = FirstFree es i × (in_book (λ x b. 1) es < length es)
+-- a call on the lease with a serial in a state turns its record alone, if there is one
+abbrev pub Settled : List Entry → ℕ → State → Turn → Option Lease → List Entry → Type 0
+Settled es n t call None fs = ((i : ℕ) (x : words.Lease) → RecordOf (in_state t) es n i x → ⊥) × (fs ≡ es)
+Settled es n t call (Some l) fs =
+    (i : ℕ) × RecordOf (in_state t) es n i (lease l) × (fs ≡ slice_set es i (turned (in_state t (lease l)) call))

@@ -1,13 +1,16 @@
 -- What a ledger holds, and what each call makes of it.
-use Rattle.std.specs.Prelude.{◌≡◌, ℕ, suc, ◌+◌, ◌<◌, Bool, ◌⊎◌, List, length, Ok, Err, Result, slice_index_or, slice_set}
+use Rattle.std.specs.Prelude.{◌≡◌, ℕ, suc, ◌+◌, ◌<◌, ◌⊎◌, List, length, Ok, Err, Result, slice_index_or, slice_set}
 use Rattle.credential.specs.Refusals.{Named, refused}
 use Rattle.credential.specs.declared.memberships.Membership.{Membership}
 use Rattle.history.specs.Words.{Lease, for}
-use Rattle.history.specs.Contents.{Entry, is_free, is_offered, is_held, record_of, Figures, figure, in_book}
+use Rattle.history.specs.Contents.{Entry, is_free, is_offered, is_held, Figures, figure, in_book}
 use Rattle.history.specs.Steps.{FirstFree, RecordOf, one_given, one_declined, one_handed_back}
 use Rattle.vault.specs.declared.statement.Tally.{Tally}
+use Rattle.vault.specs.declared.book.State.{State}
 use Rattle.vault.specs.declared.ledger.Ledger.{Ledger}
+use Rattle.vault.specs.Balance.{in_lists}
 use Rattle.vault.specs.Books.{entries}
+use Rattle.vault.specs.Entries.{in_state}
 
 -- the figures and the book
 pub record Posted : Type 0 where
@@ -17,7 +20,7 @@ pub record Posted : Type 0 where
 abbrev pub posted : Ledger → Posted
 posted l =
     record {
-      figures = record { total = l.given; givens = l.givens; declineds = l.declineds; handed_backs = l.handed_backs };
+      figures = in_lists l.given l.figures;
       book = entries l.book;
     }
 
@@ -25,9 +28,9 @@ posted l =
 abbrev pub opens : Posted → ℕ
 opens p = in_book (λ l b. 1) p.book
 
--- a record has the lease with this serial, held or not yet
-abbrev pub Recorded : Bool → Posted → ℕ → Type 0
-Recorded held p n = (i : ℕ) × (l : Lease) × RecordOf (record_of held) p.book n i l
+-- a record has the lease with this serial in this state
+abbrev pub Recorded : State → Posted → ℕ → Type 0
+Recorded t p n = (i : ℕ) × (l : Lease) × RecordOf (in_state t) p.book n i l
 
 -- an offer takes the first free record and the next serial; 19 if none is free, then 20 if all were given
 abbrev pub Lent : Posted → Membership → Result ℕ Named → Posted → Type 0
@@ -65,6 +68,6 @@ Tallied p r t =
     × (t.handed_back ≡ figure p.figures.handed_backs r)
     × (t.«open» ≡ in_book (λ l b. for r l) p.book)
 
--- the tallies of the role names 1 to n
-abbrev pub AllTallied : ℕ → Posted → List Tally → Type 0
-AllTallied n p ts = (length ts ≡ 16) × ((i : ℕ) (d : Tally) → i < n → Tallied p (i + 1) (slice_index_or ts i d))
+-- the tallies of the sixteen role names
+abbrev pub AllTallied : Posted → List Tally → Type 0
+AllTallied p ts = (length ts ≡ 16) × ((i : ℕ) (d : Tally) → i < 16 → Tallied p (i + 1) (slice_index_or ts i d))

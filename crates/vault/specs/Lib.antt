@@ -4,4 +4,7 @@ pub mod Books
 pub mod Balance
 pub mod Ledgers
 pub mod Verdicts
+pub mod Keeping
+pub mod Slips
+pub mod Settling
 pub mod Vaults

@@ -1,5 +1,5 @@
 -- The statement of sixteen tallies, and the buffer that it is written into.
-use Rattle.std.specs.Prelude.{ℕ, ◌+◌, ◌*◌, ◌≤◌, cond, List, [], ◌∷◌, ◌++◌, map, length, drop, Ok, Err, Result, nat_lt}
+use Rattle.std.specs.Prelude.{ℕ, ◌+◌, ◌*◌, ◌<◌, ◌≤◌, cond, List, [], ◌∷◌, ◌++◌, map, length, drop, Ok, Err, Result, nat_lt}
 use Rattle.credential.specs.Refusals.{Named, refused}
 use Rattle.history.specs.Contents.{figure}
 use Rattle.history.specs.Statement.{summed, columns, figures, role_lines, stated, most_bytes}
@@ -44,6 +44,15 @@ row_of t u = record { given = t.given; declined = t.declined; handed_back = t.ha
 -- two rows, figure by figure
 abbrev pub joint : Row → Row → Row
 joint a b = record { given = a.given + b.given; declined = a.declined + b.declined; handed_back = a.handed_back + b.handed_back; «open» = a.«open» + b.«open»; units = a.units + b.units }
+
+-- they can be joined
+abbrev pub Room : Row → Row → Type 0
+Room a b =
+    (a.given + b.given < 4294967296)
+    × (a.declined + b.declined < 4294967296)
+    × (a.handed_back + b.handed_back < 4294967296)
+    × (a.«open» + b.«open» < 4294967296)
+    × (a.units + b.units < 4294967296)
 
 -- the sums over the role names 1 to n
 unfoldable pub sums_to : ℕ → List ℕ → List Tally → Row

@@ -1,36 +1,17 @@
 -- What a vault holds, and what each of its calls is in a history.
-use Rattle.std.specs.Prelude.{◌≡◌, ℕ, List, [], Ok, Err, vec_items, Result}
+use Rattle.std.specs.Prelude.{◌≡◌, ℕ, List, [], Ok, Err, Result}
 use Rattle.credential.specs.declared.credentials.Credential.{Credential}
 use Rattle.credential.specs.declared.memberships.Membership.{Membership}
 use Rattle.credential.specs.Refusals.{Named, named}
 use Rattle.model.specs.Tables.{Table}
-use Rattle.history.specs.Events.{Kind, Making, Slip, Call, Event, publish, withdraw, certify, adopt, offer, draw, decline, hand_back, published, withdrawn, certified, adopted, offered, drawn, declined, handed_back, refused, asked}
+use Rattle.history.specs.Events as events
+use Rattle.history.specs.Events.{Kind, Making, Call, Event, publish, withdraw, certify, adopt, offer, draw, decline, hand_back, published, withdrawn, certified, adopted, offered, drawn, declined, handed_back, refused, asked}
 use Rattle.history.specs.Law.{Due}
-use Rattle.history.specs.Contents.{Entry, Contents, Keeps}
+use Rattle.history.specs.Contents.{Contents, Keeps}
 use Rattle.history.specs.Steps.{After, seen, Stepped}
 use Rattle.vault.specs.declared.slips.Returned.{Returned}
-use Rattle.vault.specs.declared.slips.offers.OfferSlip.{OfferSlip}
-use Rattle.vault.specs.declared.slips.leases.LeaseSlip.{LeaseSlip}
-use Rattle.vault.specs.declared.vaults.Vault.{Vault}
-use Rattle.vault.specs.Verdicts.{kept_if}
-use Rattle.vault.specs.Ledgers.{posted}
-
--- the contents of a vault of this kind, over a register with this list and capacity
-abbrev pub viewed : {R K : Type 0} → Kind → (R → List Credential) → ℕ → Vault R K → Contents
-viewed kind list limit v =
-    record {
-      kind = kind;
-      number = v.number;
-      capacity = limit;
-      list = list v.register;
-      kept = kept_if v.stands (vec_items v.verdicts);
-      figures = (posted v.ledger).figures;
-      book = (posted v.ledger).book;
-    }
-
--- the records of its book
-abbrev pub book_of : {R K : Type 0} → Vault R K → List Entry
-book_of v = (posted v.ledger).book
+use Rattle.vault.specs.declared.slips.Slip.{Slip}
+use Rattle.vault.specs.Slips.{slip_of}
 
 -- it was made so, and nothing has happened since
 abbrev pub Made : Kind → ℕ → ℕ → List Credential → Contents → Type 0
@@ -42,13 +23,6 @@ pub record Happened (v : Contents) (e : Event) (w : Contents) : Type 0 where
   pub due : Due (seen v) e
   pub after : After v e w
   pub kept : Stepped v e w
-
--- the numbers on a slip
-abbrev pub offer_slip : OfferSlip → Slip
-offer_slip s = record { vault = s.vault; serial = s.serial }
-
-abbrev pub lease_slip : LeaseSlip → Slip
-lease_slip s = record { vault = s.vault; serial = s.serial }
 
 -- the event of a call with its answer
 abbrev pub answer_event : Call → Event → Result (Unit {0}) Named → Event
@@ -68,22 +42,22 @@ certify_event b (Err e) t = refused (certify b) e
 abbrev pub adopt_event : Table → Result (Unit {0}) Named → Event
 adopt_event t r = answer_event (adopt t) (adopted t) r
 
-abbrev pub offer_event : Membership → Result OfferSlip Named → Event
-offer_event m (Ok s) = offered m (offer_slip s)
+abbrev pub offer_event : {S : Type 0} → Membership → Result (Slip S) Named → Event
+offer_event m (Ok s) = offered m (slip_of s)
 offer_event m (Err e) = refused (asked m) e
 
 -- an offer by plain numbers: of the membership that they tell, or refused as they are
-abbrev pub OfferedByNumbers : ℕ → ℕ → ℕ → Result Membership Named → Contents → Result OfferSlip Named → Contents → Type 0
+abbrev pub OfferedByNumbers : {S : Type 0} → ℕ → ℕ → ℕ → Result Membership Named → Contents → Result (Slip S) Named → Contents → Type 0
 OfferedByNumbers a r d (Ok m) v q w = Happened v (offer_event m q) w
 OfferedByNumbers a r d (Err e) v q w = (q ≡ Err e) × Happened v (refused (offer a r d) e) w
 
-abbrev pub draw_event : Slip → Result (Unit {0}) Named → Event
+abbrev pub draw_event : events.Slip → Result (Unit {0}) Named → Event
 draw_event s r = answer_event (draw s) (drawn s s) r
 
-abbrev pub decline_event : Slip → Result (Unit {0}) Named → Event
+abbrev pub decline_event : events.Slip → Result (Unit {0}) Named → Event
 decline_event s r = answer_event (decline s) (declined s) r
 
-abbrev pub hand_back_event : Slip → Result (Unit {0}) Named → Event
+abbrev pub hand_back_event : events.Slip → Result (Unit {0}) Named → Event
 hand_back_event s r = answer_event (hand_back s) (handed_back s) r
 
 -- what was answered to the bringer of a slip: something given or nothing, or why it was refused
@@ -92,8 +66,8 @@ spent (Ok x) = Ok tt
 spent (Err b) = Err (named b.why)
 
 -- the lease slip that is given has the numbers of the offer slip
-abbrev pub GivenOn : Slip → Result LeaseSlip (Returned OfferSlip) → Type 0
-GivenOn s (Ok l) = lease_slip l ≡ s
+abbrev pub GivenOn : {S T : Type 0} → events.Slip → Result (Slip T) (Returned (Slip S)) → Type 0
+GivenOn s (Ok l) = slip_of l ≡ s
 GivenOn s (Err b) = Unit {0}
 
 -- a refused slip goes back to its holder

@@ -14,12 +14,19 @@ pub(crate) struct Lease {
     pub(crate) membership: Membership,
 }
 
-// A record: free, or with a lease that is offered or held. There is one free record value.
+// A record: free, or with a lease that is offered or held.
 #[derive(Clone, Copy)]
 pub(crate) enum Record {
     Free,
     Offered(Lease),
     Held(Lease),
+}
+
+// The state of an open lease.
+#[derive(Clone, Copy)]
+pub(crate) enum State {
+    Offered,
+    Held,
 }
 
 // A call that turns a record; an offer brings its lease.
@@ -33,12 +40,7 @@ pub(crate) enum Turn {
 
 // The records, of which one at a time is lent.
 #[derive(Drop)]
-pub(crate) struct Table {
-    records: Vec<Record>,
-}
-
-#[derive(Drop)]
 pub(crate) struct Book {
-    table: Table,
-    ghost full: { vec_len table.records ≡ 256 },
+    records: Vec<Record>,
+    ghost full: { vec_len records ≡ 256 },
 }

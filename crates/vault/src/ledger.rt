@@ -1,6 +1,6 @@
 // The ledger of a vault: what was counted by role name, and the book of leases.
-ghost use Rattle.std.specs.Prelude.{◌≡◌, ◌≤◌};
-ghost use Rattle.vault.specs.Balance.{Balanced};
+ghost use Rattle.std.specs.Prelude.{◌≤◌};
+ghost use Rattle.vault.specs.Balance.{in_lists, Balanced};
 ghost use Rattle.vault.specs.Books.{entries};
 
 use crate::book::Book;
@@ -8,15 +8,21 @@ use crate::book::Book;
 mod calls;
 mod tallies;
 
-// Offers given in all; by role name, offers given, offers declined and leases handed back. The figures balance with
-// the book, so that none of them can overflow.
+// Of one role name: offers given, offers declined and leases handed back.
+#[derive(Clone, Copy, Default)]
+struct Figures {
+    given: u32,
+    declined: u32,
+    handed_back: u32,
+}
+
+// Offers given in all, and the figures by role name. The figures balance with the book, so that none of them can
+// overflow.
 #[derive(Drop)]
 pub(crate) struct Ledger {
     given: u32,
-    givens: [u32; 16],
-    declineds: [u32; 16],
-    handed_backs: [u32; 16],
+    figures: [Figures; 16],
     book: Book,
     ghost few: { given ≤ 999999 },
-    ghost balanced: { Balanced given givens declineds handed_backs (entries book) },
+    ghost balanced: { Balanced (in_lists given figures) (entries book) },
 }

@@ -1,6 +1,7 @@
 // The figures of a statement: those of a role name, and those of a line.
 ghost use Rattle.std.specs.Prelude.{◌≤◌};
 
+mod rows;
 pub mod writing;
 
 // Of one role name: offers given, offers declined, leases handed back, and leases open.
@@ -18,7 +19,7 @@ pub struct Tally {
 }
 
 // The five figures of a line.
-#[derive(Clone, Copy)]
+#[derive(Clone, Copy, Default)]
 struct Row {
     given: u32,
     declined: u32,

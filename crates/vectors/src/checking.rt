@@ -1,7 +1,7 @@
 // A case of checking: a certificate, given as the entries that differ from all F 1 or from the least one.
+use crate::tables::all_false;
 use anyhow::anyhow;
 use checker::check;
-use credential::Membership;
 use evaluator::evaluate;
 use page::Page;
 
@@ -11,20 +11,19 @@ pub(crate) fn print_checked(
     bytes: &[u8],
     line: &str,
 ) -> anyhow::Result<()> {
-    let mut verdicts = vec![in rt.alloc(); b'F'; Membership::COUNT]?;
-    let mut numbers = vec![in rt.alloc(); 1u16; Membership::COUNT]?;
-    let page = Page::read(bytes).page;
-    for (i, word) in line.split(' ').enumerate() {
-        if i == 3 && word == "least" {
-            let _ = evaluate(&page, verdicts.as_mut_slice(), numbers.as_mut_slice());
-        }
-        if i > 3 {
-            put_entry(verdicts.as_mut_slice(), numbers.as_mut_slice(), word)?;
-        }
+    let (mut verdicts, mut numbers) = all_false(rt.alloc())?;
+    let page = Page::read(bytes)?;
+    let mut words = line.split(' ').skip(3);
+    if words.next() == Some("least") {
+        evaluate(&page, verdicts.as_mut_slice(), numbers.as_mut_slice())?;
+    }
+    for word in words {
+        put_entry(verdicts.as_mut_slice(), numbers.as_mut_slice(), word)?;
     }
     match check(&page, verdicts.as_slice(), numbers.as_slice()) {
         Ok(()) => println!(rt; "check {name} accepted")?,
         Err(refusal) => {
+            // By number, as the stored answers have it.
             let number = refusal.number();
             let place = refusal.entry().unwrap_or(0);
             println!(rt; "check {name} refused {number} {place}")?;
@@ -42,11 +41,9 @@ fn put_entry(verdicts: &mut [u8], numbers: &mut [u16], word: &str) -> anyhow::Re
         return Err(anyhow!("an entry without a number"));
     };
     let place = place.parse::<usize>()?;
-    let byte = byte.parse::<u8>()?;
-    let number = number.parse::<u16>()?;
-    if place < verdicts.len() && place < numbers.len() {
-        verdicts[place] = byte;
-        numbers[place] = number;
+    if let (Some(v), Some(n)) = (verdicts.get_mut(place), numbers.get_mut(place)) {
+        *v = byte.parse::<u8>()?;
+        *n = number.parse::<u16>()?;
     }
     Ok(())
 }

@@ -1,22 +1,19 @@
 // A case of evaluating: every entry that is not F 1, and the rounds.
+use crate::tables::all_false;
 use anyhow::anyhow;
 use credential::{Membership, Source};
 use evaluator::evaluate;
+use model::{Entry, Verdict};
 use page::Page;
 
 pub(crate) fn print_evaluated(rt: &HostRuntime, name: &str, bytes: &[u8]) -> anyhow::Result<()> {
     println!(rt; "evaluate {name}")?;
-    let mut verdicts = vec![in rt.alloc(); 0u8; Membership::COUNT]?;
-    let mut numbers = vec![in rt.alloc(); 0u16; Membership::COUNT]?;
-    let page = Page::read(bytes).page;
-    let Ok(rounds) = evaluate(&page, verdicts.as_mut_slice(), numbers.as_mut_slice()) else {
-        return Err(anyhow!("the tables have the wrong length"));
-    };
-    for place in 0..Membership::COUNT {
-        let verdict = verdicts.get(place).copied().unwrap_or(0);
-        let number = numbers.get(place).copied().unwrap_or(0);
-        if verdict != b'F' || number != 1 {
-            print_entry(rt, place, verdict, number)?;
+    let (mut verdicts, mut numbers) = all_false(rt.alloc())?;
+    let page = Page::read(bytes)?;
+    let rounds = evaluate(&page, verdicts.as_mut_slice(), numbers.as_mut_slice())?;
+    for (place, (verdict, number)) in verdicts.iter().zip(numbers.iter()).enumerate() {
+        if *verdict != u8::from(Verdict::False) || *number != 1 {
+            print_entry(rt, place, *verdict, *number)?;
         }
     }
     println!(rt; "rounds {rounds}")?;
@@ -24,13 +21,13 @@ pub(crate) fn print_evaluated(rt: &HostRuntime, name: &str, bytes: &[u8]) -> any
 }
 
 fn print_entry(rt: &HostRuntime, place: usize, verdict: u8, number: u16) -> anyhow::Result<()> {
-    let Some(membership) = Membership::at(place) else {
-        return Err(anyhow!("no such place"));
+    let (Some(membership), Ok(verdict)) = (Membership::at(place), Verdict::try_from(verdict)) else {
+        return Err(anyhow!("no such entry"));
     };
-    let letter = verdict as char;
-    let owner = membership.role.owner.number();
-    let name = membership.role.name.number();
-    let member = membership.member.number();
-    println!(rt; "{letter}{owner:>3}{name:>3}{member:>3}{number:>6}")?;
+    rt.println(Entry {
+        membership,
+        verdict,
+        number,
+    })?;
     Ok(())
 }

@@ -3,15 +3,9 @@ use std::alloc::{AllocError, Global};
 
 pub(crate) fn from_hex(heap: Global, hex: &[u8]) -> Result<Vec<u8>, AllocError> {
     let mut bytes = Vec::new(heap);
-    let mut high = None;
-    for digit in hex {
-        let value = nibble(*digit);
-        match high {
-            None => high = Some(value),
-            Some(h) => {
-                bytes.push(h << 4 | value)?;
-                high = None;
-            }
+    for pair in hex.chunks_exact(2) {
+        if let [high, low] = pair {
+            bytes.push(nibble(*high) << 4 | nibble(*low))?;
         }
     }
     Ok(bytes)

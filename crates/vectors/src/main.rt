@@ -12,6 +12,7 @@ mod checking;
 mod evaluating;
 mod hex;
 mod reading;
+mod tables;
 
 fn main(rt: HostRuntime) -> anyhow::Result<()> {
     run(&rt)

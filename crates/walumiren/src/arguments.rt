@@ -1,6 +1,6 @@
 // The command that the arguments name.
 use anyhow::anyhow;
-use credential::{Entity, Membership, Role, RoleName};
+use credential::{Membership, Number, Role};
 
 // What is done with a page.
 #[derive(Clone, Copy)]
@@ -42,10 +42,10 @@ pub(crate) fn file_of<'a>(args: &'a [String], task: Task) -> anyhow::Result<&'a 
         Task::Members => 3,
         _ => 2,
     };
-    match args.get(at) {
-        Some(file) => Ok(file.as_str()),
-        None => Err(anyhow!("name a FILE, or - for standard input")),
-    }
+    let Some(file) = args.get(at) else {
+        return Err(anyhow!("name a FILE, or - for standard input"));
+    };
+    Ok(file.as_str())
 }
 
 // The membership of `A.R D`.
@@ -57,25 +57,19 @@ fn membership_in(args: &[String]) -> anyhow::Result<Membership> {
         return Err(anyhow!("a role is written A.R, as 1.3"));
     };
     let role = Role {
-        owner: entity(owner)?,
-        name: role_name(name)?,
+        owner: number(owner, "an entity")?,
+        name: number(name, "a role name")?,
     };
     Ok(Membership {
         role,
-        member: entity(member.as_str())?,
+        member: number(member.as_str(), "an entity")?,
     })
 }
 
-fn entity(text: &str) -> anyhow::Result<Entity> {
-    match Entity::new(text.parse::<u32>()?) {
-        Ok(entity) => Ok(entity),
-        Err(_) => Err(anyhow!("refusal 5: an entity is a number from 1 to 32")),
-    }
-}
-
-fn role_name(text: &str) -> anyhow::Result<RoleName> {
-    match RoleName::new(text.parse::<u32>()?) {
-        Ok(name) => Ok(name),
-        Err(_) => Err(anyhow!("refusal 5: a role name is a number from 1 to 16")),
-    }
+// An entity or a role name, which the message of another number calls `what`.
+fn number<const MOST: u8>(text: &str, what: &str) -> anyhow::Result<Number<MOST>> {
+    let Ok(number) = Number::new(text.parse::<u32>()?) else {
+        return Err(anyhow!("refusal 5: {what} is a number from 1 to {MOST}"));
+    };
+    Ok(number)
 }

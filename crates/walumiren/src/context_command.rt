@@ -1,26 +1,23 @@
 // `walumiren context FILE`: the page of the context, in which each exclusion is an inclusion.
-use crate::Outcome;
-use crate::messages::refusal_line;
+use crate::messages::refuse;
 use page::{Page, write_page};
 use register::Context;
 use std::io::Write;
+use std::process::ExitCode;
 
 pub(crate) fn print_context(
     rt: &HostRuntime,
     file: &str,
     page: &Page<'_>,
-) -> anyhow::Result<Outcome> {
+) -> anyhow::Result<ExitCode> {
     let mut text = vec![in rt.alloc(); 0u8; 5120]?;
     match write_page(&Context::new(page), text.as_mut_slice()) {
         Ok(written) => {
             if let Some(part) = text.as_slice().get(0..written) {
                 rt.stdout().write_all(part)?;
             }
-            Ok(Outcome::Done)
+            Ok(ExitCode::SUCCESS)
         }
-        Err(refusal) => {
-            rt.eprintln(refusal_line(rt.alloc(), file, refusal)?)?;
-            Ok(Outcome::Failed)
-        }
+        Err(refusal) => refuse(rt, file, refusal),
     }
 }

@@ -1,26 +1,28 @@
 // `walumiren explain FILE A.R D`: why a membership is true, false or undefined.
-use crate::Outcome;
 use crate::clauses::Body;
-use crate::clauses::bodies::{clause_body, head};
-use crate::tables::{Tables, Verdict};
+use crate::clauses::bodies::clause_body;
+use crate::tables::Tables;
 use credential::{Credential, Entity, Membership, Source};
+use model::Verdict;
 use page::Page;
+use std::iter;
+use std::process::ExitCode;
 
 pub(crate) fn explain(
     rt: &HostRuntime,
     page: &Page<'_>,
     membership: Membership,
-) -> anyhow::Result<Outcome> {
+) -> anyhow::Result<ExitCode> {
     let mut tables = Tables::new(rt.alloc())?;
-    if tables.fill(page).is_err() {
-        return Ok(Outcome::Failed);
+    tables.fill(page)?;
+    let verdict = tables.verdict(membership);
+    let explanation = Explanation { page, tables };
+    match verdict {
+        Verdict::True => explanation.of_true(rt, membership)?,
+        Verdict::Undefined => explanation.of_undefined(rt, membership)?,
+        Verdict::False => explanation.of_false(rt, membership)?,
     }
-    match tables.verdict(membership) {
-        Verdict::True => explain_true(rt, page, &tables, membership)?,
-        Verdict::Undefined => explain_undefined(rt, page, &tables, membership)?,
-        Verdict::False => explain_false(rt, page, &tables, membership)?,
-    }
-    Ok(Outcome::Done)
+    Ok(ExitCode::SUCCESS)
 }
 
 // The memberships to explain, each once, in the order in which they came up.
@@ -30,251 +32,176 @@ struct Agenda {
 }
 
 impl Agenda {
-    fn holds(&self, membership: Membership) -> bool {
-        for known in self.all.iter() {
-            if known.place() == membership.place() {
-                return true;
-            }
-        }
-        false
-    }
-
-    fn add(&mut self, membership: Option<Membership>) -> anyhow::Result<()> {
-        if let Some(m) = membership {
-            if !self.holds(m) {
-                self.all.push(m)?;
-            }
+    fn add(&mut self, membership: Membership) -> anyhow::Result<()> {
+        if !self.all.contains(&membership) {
+            self.all.push(membership)?;
         }
         Ok(())
     }
 }
 
-// The supporting clauses down to member lines, each membership once.
-fn explain_true(
-    rt: &HostRuntime,
-    page: &Page<'_>,
-    tables: &Tables,
-    membership: Membership,
-) -> anyhow::Result<()> {
-    let mut agenda = Agenda {
-        all: Vec::new(rt.alloc()),
-    };
-    agenda.add(Some(membership))?;
-    for next in 0..Membership::COUNT {
-        let Some(m) = agenda.all.get(next).copied() else {
-            return Ok(());
-        };
-        let body = explain_entry(rt, page, tables, m, "is true")?;
-        if let Some(body) = body {
-            agenda.add(body.first)?;
-            agenda.add(body.second)?;
-        }
-    }
-    Ok(())
+// A page, and the least certificate of its credentials, by which memberships are explained.
+#[derive(Drop)]
+struct Explanation<'a> {
+    page: &'a Page<'a>,
+    tables: Tables,
 }
 
-// The chain of undefined supports, until one repeats: that is the circle.
-fn explain_undefined(
-    rt: &HostRuntime,
-    page: &Page<'_>,
-    tables: &Tables,
-    membership: Membership,
-) -> anyhow::Result<()> {
-    let mut chain = Agenda {
-        all: Vec::new(rt.alloc()),
-    };
-    let mut m = membership;
-    for _ in 0..Membership::COUNT {
-        chain.add(Some(m))?;
-        let body = explain_entry(rt, page, tables, m, "is undefined")?;
-        let Some(next) = undefined_in(tables, body) else {
-            return Ok(());
+impl<'a> Explanation<'a> {
+    // The supporting clauses down to member lines, each membership once.
+    fn of_true(&self, rt: &HostRuntime, membership: Membership) -> anyhow::Result<()> {
+        let mut agenda = Agenda {
+            all: Vec::new(rt.alloc()),
         };
-        m = next;
-        if chain.holds(m) {
-            let role = m.role;
-            let member = m.member.number();
-            println!(rt; "{member} in {role}: the circle closes here")?;
-            return Ok(());
-        }
-    }
-    Ok(())
-}
-
-// The first undefined membership that a clause rests on.
-fn undefined_in(tables: &Tables, body: Option<Body>) -> Option<Membership> {
-    let Some(body) = body else {
-        return None;
-    };
-    for m in [body.first, body.second, body.negated].iter() {
-        if let Some(m) = *m {
-            if let Verdict::Undefined = tables.verdict(m) {
-                return Some(m);
+        agenda.add(membership)?;
+        // By index, since the agenda grows while it is gone through; it has each membership once.
+        for next in 0..Membership::COUNT {
+            let Some(m) = agenda.all.get(next).copied() else {
+                return Ok(());
+            };
+            if let Some(body) = self.print_support(rt, m, "is true")? {
+                for positive in body.positives().into_iter().flatten() {
+                    agenda.add(positive)?;
+                }
             }
         }
+        Ok(())
     }
-    None
-}
 
-// Prints a membership with the first clause that supports it, and answers that clause.
-fn explain_entry(
-    rt: &HostRuntime,
-    page: &Page<'_>,
-    tables: &Tables,
-    membership: Membership,
-    verdict: &str,
-) -> anyhow::Result<Option<Body>> {
-    let role = membership.role;
-    let member = membership.member.number();
-    for place in 1..=page.count() {
-        if let Some(credential) = page.at(place) {
-            if let Some((body, through)) = support_in(tables, credential, membership) {
-                print!(rt; "{member} in {role} {verdict} by line {place}: {credential}")?;
-                if let Credential::Linked { .. } = credential {
+    // The chain of undefined supports, until one repeats: that is the circle.
+    fn of_undefined(&self, rt: &HostRuntime, membership: Membership) -> anyhow::Result<()> {
+        let mut chain = Agenda {
+            all: Vec::new(rt.alloc()),
+        };
+        let mut m = membership;
+        // As many turns as there are memberships at most, since the chain has each once.
+        for _ in 0..Membership::COUNT {
+            chain.add(m)?;
+            let Some(body) = self.print_support(rt, m, "is undefined")? else {
+                return Ok(());
+            };
+            let Some(next) = self.undefined_in(body) else {
+                return Ok(());
+            };
+            m = next;
+            if chain.all.contains(&m) {
+                println!(rt; "{m}: the circle closes here")?;
+                return Ok(());
+            }
+        }
+        Ok(())
+    }
+
+    // For each ground clause, what fails in it.
+    fn of_false(&self, rt: &HostRuntime, membership: Membership) -> anyhow::Result<()> {
+        println!(rt; "{membership} is false: each clause fails")?;
+        for (place, credential) in (1usize..).zip(self.page.credentials()) {
+            if credential.head() == membership.role {
+                println!(rt; "line {place}: {credential}")?;
+                self.print_failures(rt, credential, membership.member)?;
+            }
+        }
+        Ok(())
+    }
+
+    // The first undefined membership that a clause rests on.
+    fn undefined_in(&self, body: Body) -> Option<Membership> {
+        [body.first, body.second, body.negated]
+            .into_iter()
+            .flatten()
+            .find(|m| self.tables.verdict(*m) == Verdict::Undefined)
+    }
+
+    // Prints a membership with the first clause that supports it, and answers that clause.
+    fn print_support(
+        &self,
+        rt: &HostRuntime,
+        membership: Membership,
+        verdict: &str,
+    ) -> anyhow::Result<Option<Body>> {
+        for (place, credential) in (1usize..).zip(self.page.credentials()) {
+            if let Some((body, through)) = self.support_in(credential, membership) {
+                print!(rt; "{membership} {verdict} by line {place}: {credential}")?;
+                if let Some(through) = through {
                     print!(rt; ", through {through}")?;
                 }
                 rt.println("")?;
                 return Ok(Some(body));
             }
         }
+        Ok(None)
     }
-    Ok(None)
-}
 
-// The first ground clause of the credential that supports the membership, with the entity that it goes through.
-fn support_in(
-    tables: &Tables,
-    credential: Credential,
-    membership: Membership,
-) -> Option<(Body, u8)> {
-    if head(credential).owner.number() != membership.role.owner.number() {
-        return None;
+    // The first ground clause of the credential that supports the membership, with the entity that it goes through, if it goes through one.
+    fn support_in(
+        &self,
+        credential: Credential,
+        membership: Membership,
+    ) -> Option<(Body, Option<Entity>)> {
+        if credential.head() != membership.role {
+            return None;
+        }
+        iter::once(None)
+            .chain(Entity::all().map(Some))
+            .find_map(|through| {
+                clause_body(credential, membership.member, through)
+                    .filter(|body| self.supports(membership, *body))
+                    .map(|body| (body, through))
+            })
     }
-    if head(credential).name.number() != membership.role.name.number() {
-        return None;
-    }
-    for y in 1..=32u8 {
-        if let Ok(through) = Entity::new(y as u32) {
-            if let Some(b) = clause_body(credential, membership.member, through) {
-                if supports(tables, membership, b) {
-                    return Some((b, y));
-                }
+
+    // A clause supports a true membership if its positive ones are true and its negated one false, all earlier; an undefined one if its positive ones are true or were supported earlier and its negated one is not true.
+    fn supports(&self, membership: Membership, body: Body) -> bool {
+        let tables = &self.tables;
+        let n = tables.number(membership);
+        let earlier = |m: Membership| tables.number(m) < n;
+        let is = |m: Membership, verdict: Verdict| tables.verdict(m) == verdict;
+        let mut positives = body.positives().into_iter().flatten();
+        match tables.verdict(membership) {
+            Verdict::True => {
+                positives.all(|m| is(m, Verdict::True) && earlier(m))
+                    && body
+                        .negated
+                        .is_none_or(|m| is(m, Verdict::False) && earlier(m))
             }
-        }
-    }
-    None
-}
-
-// A clause supports a true membership if its positive ones are true and its negated one false, all earlier; an undefined one if its positive ones are true or were supported earlier and its negated one is not true.
-fn supports(tables: &Tables, membership: Membership, body: Body) -> bool {
-    let n = tables.number(membership);
-    match tables.verdict(membership) {
-        Verdict::True => {
-            proved(tables, body.first, n)
-                && proved(tables, body.second, n)
-                && refuted(tables, body.negated, n)
-        }
-        Verdict::Undefined => {
-            possible(tables, body.first, n)
-                && possible(tables, body.second, n)
-                && not_true(tables, body.negated)
-        }
-        Verdict::False => false,
-    }
-}
-
-fn proved(tables: &Tables, membership: Option<Membership>, n: u16) -> bool {
-    match membership {
-        None => true,
-        Some(m) => matches!(tables.verdict(m), Verdict::True) && tables.number(m) < n,
-    }
-}
-
-fn refuted(tables: &Tables, membership: Option<Membership>, n: u16) -> bool {
-    match membership {
-        None => true,
-        Some(m) => matches!(tables.verdict(m), Verdict::False) && tables.number(m) < n,
-    }
-}
-
-fn possible(tables: &Tables, membership: Option<Membership>, n: u16) -> bool {
-    match membership {
-        None => true,
-        Some(m) => match tables.verdict(m) {
-            Verdict::True => true,
-            Verdict::Undefined => tables.number(m) < n,
+            Verdict::Undefined => {
+                positives.all(|m| is(m, Verdict::True) || is(m, Verdict::Undefined) && earlier(m))
+                    && body.negated.is_none_or(|m| !is(m, Verdict::True))
+            }
             Verdict::False => false,
-        },
-    }
-}
-
-fn not_true(tables: &Tables, membership: Option<Membership>) -> bool {
-    match membership {
-        None => true,
-        Some(m) => !matches!(tables.verdict(m), Verdict::True),
-    }
-}
-
-// For each ground clause, what fails in it.
-fn explain_false(
-    rt: &HostRuntime,
-    page: &Page<'_>,
-    tables: &Tables,
-    membership: Membership,
-) -> anyhow::Result<()> {
-    let role = membership.role;
-    let member = membership.member.number();
-    println!(rt; "{member} in {role} is false: each clause fails")?;
-    for place in 1..=page.count() {
-        if let Some(credential) = page.at(place) {
-            let own = head(credential);
-            if own.owner.number() == role.owner.number()
-                && own.name.number() == role.name.number()
-            {
-                println!(rt; "line {place}: {credential}")?;
-                print_failures(rt, tables, credential, membership.member)?;
-            }
         }
     }
-    Ok(())
-}
 
-fn print_failures(
-    rt: &HostRuntime,
-    tables: &Tables,
-    credential: Credential,
-    member: Entity,
-) -> anyhow::Result<()> {
-    if let Credential::Member { .. } = credential {
-        rt.println("    names another entity")?;
-        return Ok(());
-    }
-    for y in 1..=32u32 {
-        if let Ok(through) = Entity::new(y) {
-            if let Some(b) = clause_body(credential, member, through) {
-                print_failure(rt, tables, b)?;
+    fn print_failures(
+        &self,
+        rt: &HostRuntime,
+        credential: Credential,
+        member: Entity,
+    ) -> anyhow::Result<()> {
+        if let Credential::Member { .. } = credential {
+            rt.println("    names another entity")?;
+            return Ok(());
+        }
+        for through in iter::once(None).chain(Entity::all().map(Some)) {
+            if let Some(body) = clause_body(credential, member, through) {
+                self.print_failure(rt, body)?;
             }
         }
+        Ok(())
     }
-    Ok(())
-}
 
-// The first membership of a clause that makes it fail.
-fn print_failure(rt: &HostRuntime, tables: &Tables, body: Body) -> anyhow::Result<()> {
-    for m in [body.first, body.second].iter() {
-        if let Some(m) = *m {
-            if let Verdict::False = tables.verdict(m) {
-                let role = m.role;
-                let member = m.member.number();
-                println!(rt; "    {member} in {role} is false")?;
-                return Ok(());
-            }
+    // The first membership of a clause that makes it fail.
+    fn print_failure(&self, rt: &HostRuntime, body: Body) -> anyhow::Result<()> {
+        let failing = body
+            .positives()
+            .into_iter()
+            .flatten()
+            .find(|m| self.tables.verdict(*m) == Verdict::False);
+        if let Some(m) = failing {
+            println!(rt; "    {m} is false")?;
+        } else if let Some(m) = body.negated {
+            println!(rt; "    {m} is true")?;
         }
+        Ok(())
     }
-    if let Some(m) = body.negated {
-        let role = m.role;
-        let member = m.member.number();
-        println!(rt; "    {member} in {role} is true")?;
-    }
-    Ok(())
 }

@@ -16,17 +16,9 @@ mod messages;
 mod page_command;
 mod tables;
 
-// How a command ended: done, or refused or failed, of which it has said why.
-#[derive(Clone, Copy)]
-pub enum Outcome {
-    Done,
-    Failed,
-}
-
 fn main(rt: HostRuntime) -> ExitCode {
     match run(&rt) {
-        Ok(Outcome::Done) => ExitCode::SUCCESS,
-        Ok(Outcome::Failed) => ExitCode::FAILURE,
+        Ok(code) => code,
         Err(e) => {
             let _ = eprintln!(rt; "walumiren: {e}");
             ExitCode::FAILURE
@@ -34,16 +26,14 @@ fn main(rt: HostRuntime) -> ExitCode {
     }
 }
 
-fn run(rt: &HostRuntime) -> anyhow::Result<Outcome> {
-    let mut args = Vec::new(rt.alloc());
-    for arg in env::args(rt)? {
-        args.push(arg)?;
-    }
+// Carries out the command: what it refuses or fails in, it says itself, and answers failure.
+fn run(rt: &HostRuntime) -> anyhow::Result<ExitCode> {
+    let args: Vec<String> = env::args(rt)?.collect(rt.alloc())?;
     match read_command(args.as_slice())? {
         Command::Demonstration => demonstration::show(rt),
         Command::Help => {
             rt.println(HELP)?;
-            Ok(Outcome::Done)
+            Ok(ExitCode::SUCCESS)
         }
         Command::OnPage(task) => commands::run(rt, task, file_of(args.as_slice(), task)?),
     }

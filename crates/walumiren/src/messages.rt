@@ -4,6 +4,7 @@ ghost use Rattle.walumiren.specs.Messages.{refusal_line};
 
 use credential::Refusal;
 use std::alloc::{AllocError, Global};
+use std::process::ExitCode;
 
 // A refusal as one line that an editor can jump from.
 pub fn refusal_line(heap: Global, file: &str, refusal: Refusal) -> Result<String, AllocError>
@@ -11,4 +12,10 @@ pub fn refusal_line(heap: Global, file: &str, refusal: Refusal) -> Result<String
 {
     let (line, column) = refusal.position().unwrap_or((0, 0));
     format!(in heap; "{file}:{line}:{column}: {refusal}")
+}
+
+// Prints the line of a refusal on standard error, and answers failure.
+pub(crate) fn refuse(rt: &HostRuntime, file: &str, refusal: Refusal) -> anyhow::Result<ExitCode> {
+    rt.eprintln(refusal_line(rt.alloc(), file, refusal)?)?;
+    Ok(ExitCode::FAILURE)
 }

@@ -2,15 +2,10 @@
 use checker::check;
 use credential::{Membership, Refusal, Source};
 use evaluator::evaluate;
+use model::{Entry, Verdict};
 use std::alloc::{AllocError, Global};
 
-#[derive(Clone, Copy)]
-pub(crate) enum Verdict {
-    True,
-    False,
-    Undefined,
-}
-
+// Verdicts by their bytes, and numbers, as `check` and `evaluate` take them: two tables of one length.
 #[derive(Drop)]
 pub(crate) struct Tables {
     verdicts: Vec<u8>,
@@ -19,7 +14,7 @@ pub(crate) struct Tables {
 
 impl Tables {
     pub(crate) fn new(heap: Global) -> Result<Tables, AllocError> {
-        let verdicts = vec![in heap; b'F'; Membership::COUNT]?;
+        let verdicts = vec![in heap; u8::from(Verdict::False); Membership::COUNT]?;
         let numbers = vec![in heap; 1u16; Membership::COUNT]?;
         Ok(Tables { verdicts, numbers })
     }
@@ -39,10 +34,10 @@ impl Tables {
     }
 
     // Puts another entry into the place of a membership's.
-    pub(crate) fn spoil(&mut self, membership: Membership, verdict: u8, number: u16) {
+    pub(crate) fn spoil(&mut self, membership: Membership, verdict: Verdict, number: u16) {
         let place = membership.place();
         if let Some(v) = self.verdicts.get_mut(place) {
-            *v = verdict;
+            *v = verdict.into();
         }
         if let Some(n) = self.numbers.get_mut(place) {
             *n = number;
@@ -50,25 +45,25 @@ impl Tables {
     }
 
     pub(crate) fn verdict(&self, membership: Membership) -> Verdict {
-        match self.verdicts.get(membership.place()).copied() {
-            Some(b'T') => Verdict::True,
-            Some(b'U') => Verdict::Undefined,
-            _ => Verdict::False,
-        }
+        let byte = self.verdicts.get(membership.place()).copied().unwrap_or(0);
+        Verdict::try_from(byte).unwrap_or(Verdict::False)
     }
 
     pub(crate) fn number(&self, membership: Membership) -> u16 {
         self.numbers.get(membership.place()).copied().unwrap_or(1)
     }
 
-    // How many entries have a verdict.
-    pub(crate) fn count(&self, byte: u8) -> usize {
-        let mut count = 0usize;
-        for b in self.verdicts.iter() {
-            if *b == byte {
-                count = count.saturating_add(1);
-            }
+    pub(crate) fn entry(&self, membership: Membership) -> Entry {
+        Entry {
+            membership,
+            verdict: self.verdict(membership),
+            number: self.number(membership),
         }
-        count
+    }
+
+    // How many entries have a verdict.
+    pub(crate) fn count(&self, verdict: Verdict) -> usize {
+        let byte = u8::from(verdict);
+        self.verdicts.iter().filter(|b| **b == byte).count()
     }
 }

@@ -1,9 +1,9 @@
 // Reading a page, asking it for its credentials, and writing a source as a page.
-ghost use Rattle.std.specs.Prelude.{◌≡◌, ◌+◌, ◌*◌, ◌/◌, ◌≤◌, ◌++◌, length, take, drop, IfOk, None, Ok};
-ghost use Rattle.credential.specs.Refusals.{answered};
-ghost use Rattle.page.specs.Pages.{read_page, whether, reading, credentials_of, write_answer, write_after};
+ghost use Rattle.std.specs.Prelude.{◌≡◌, ◌*◌, ◌≤◌, ◌++◌, take, drop, IfOk, Ok};
+ghost use Rattle.credential.specs.Refusals.{answer, answered};
+ghost use Rattle.page.specs.Pages.{read_page, whether, credentials_of, credential_at, write_answer, write_after};
 
-use crate::lines::{fill_line, read_line};
+use crate::lines::{LINE, line_of, read_line};
 use crate::pages::Page;
 use credential::{Credential, Refusal, Source};
 
@@ -11,52 +11,23 @@ use credential::{Credential, Refusal, Source};
 fn test_page(bytes: &[u8]) -> Result<(), Refusal>
     ensures { answered result ≡ whether (read_page bytes.now) }
 {
-    let len = bytes.len();
-    if len > 5120 {
+    if bytes.len() > 5120 {
         return Err(Refusal::PageTooLong);
     }
-    let count = lines_in(len);
-    for i in 0..count {
-        let end = len.min(20 * i + 20);
-        read_line(&bytes[20 * i..end], i + 1)?;
+    for (i, line) in bytes.chunks(LINE).enumerate() {
+        read_line(line, i + 1)?;
     }
     Ok(())
 }
 
-// What reading answers: the page in place, or the refusal with the empty page.
-#[derive(Clone, Copy)]
-pub struct Reading<'a> {
-    pub page: Page<'a>,
-    pub refusal: Option<Refusal>,
-}
-
-// How many lines the bytes are cut into, the last of which may be short.
-fn lines_in(len: usize) -> usize
-    requires { len ≤ 5120 }
-    ensures { result ≡ (len + 19) / 20 }
-{
-    (len + 19) / 20
-}
-
 impl<'a> Page<'a> {
-    // The page of the bytes, or their first refusal.
-    pub fn read(bytes: &'a [u8]) -> Reading<'a>
-        ensures answer { reading result.refusal (credentials_of result.page.bytes.now) ≡ read_page bytes.now }
-        ensures empty { credentials_of result.page.bytes.now ≡ credentials_of bytes.now }
-        ensures in_place { result.refusal ≡ None → result.page.bytes.now ≡ bytes.now }
+    // The page of the bytes, in place, or their first refusal.
+    pub fn read(bytes: &'a [u8]) -> Result<Page<'a>, Refusal>
+        ensures answers { answer (λ (p : Page). credentials_of p.bytes.now) result ≡ read_page bytes.now }
+        ensures in_place { IfOk result (λ p. p.bytes.now ≡ bytes.now) }
     {
-        match test_page(bytes) {
-            Ok(()) => Reading {
-                page: Page { bytes },
-                refusal: None,
-            },
-            Err(e) => Reading {
-                page: Page {
-                    bytes: &bytes[0..0],
-                },
-                refusal: Some(e),
-            },
-        }
+        test_page(bytes)?;
+        Ok(Page { bytes })
     }
 }
 
@@ -64,17 +35,23 @@ impl<'a> Source for Page<'a> {
     ghost list = { λ p. credentials_of p.bytes.now };
 
     fn count(&self) -> usize {
-        self.bytes.len() / 20
+        self.bytes.len() / LINE
     }
 
     fn at(&self, place: usize) -> Option<Credential> {
-        if place < 1 || place > self.count() {
-            return None;
-        }
-        let at = line_start(place - 1);
-        let bytes = self.bytes;
-        read_line(&bytes[at..at + 20], place).ok()
+        credential_at(self.bytes, place)
     }
+}
+
+// The credential of the line at a place from 1, if the bytes have a whole line there and it is lawful.
+pub fn credential_at(bytes: &[u8], place: usize) -> Option<Credential>
+    ensures { result ≡ credential_at bytes.now place }
+{
+    if !(1..=bytes.len() / LINE).contains(&place) {
+        return None;
+    }
+    let at = LINE * (place - 1);
+    read_line(&bytes[at..at + LINE], place).ok()
 }
 
 // Writes the credentials of a source as a page, and answers how many bytes were written.
@@ -84,16 +61,15 @@ pub fn write_page<S: Source>(source: &S, out: &mut [u8]) -> Result<usize, Refusa
     ensures read_back { IfOk result (λ n. read_page (take n out.new) ≡ Ok (S.Source.list source.now)) }
 {
     let count = source.count();
-    if out.len() / 20 < count {
+    if out.len() / LINE < count {
         return Err(Refusal::BufferTooShort);
     }
-    for i in 0..count {
-        if let Some(credential) = source.at(i + 1) {
-            let at = line_start(i);
-            fill_line(&mut out[at..at + 20], credential);
-        }
+    // The lines by their count: after `chunks_exact_mut` a proof knows nothing of the bytes that were written.
+    for (i, credential) in source.credentials().enumerate() {
+        let at = line_start(i);
+        out[at..at + LINE].copy_from_slice(&line_of(credential));
     }
-    Ok(20 * count)
+    Ok(LINE * count)
 }
 
 // Where line `i`, from 0, begins.
@@ -101,7 +77,7 @@ fn line_start(i: usize) -> usize
     requires { i ≤ 256 }
     ensures { result ≡ 20 * i }
 {
-    20 * i
+    LINE * i
 }
 
 // Writes a page that was read: it comes out byte for byte.

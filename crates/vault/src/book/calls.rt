@@ -1,11 +1,11 @@
 // Making a book, finding a record in it, turning one, and counting the open ones.
-ghost use Rattle.std.specs.Prelude.{◌≡◌, ◌<◌, ◌≤◌, replicate, IfOk, slice_index_or, slice_set};
+ghost use Rattle.std.specs.Prelude.{◌≡◌, ◌<◌, ◌≤◌, position, replicate, IfOk, slice_index_or, slice_set};
 ghost use Rattle.history.specs.Words.{for};
 ghost use Rattle.history.specs.Contents.{is_free, in_book};
-ghost use Rattle.vault.specs.Entries.{turned, goes, is_of, is_spare, first, index, Found, Spare};
+ghost use Rattle.vault.specs.Entries.{entry, turned, goes, is_of, is_spare, Settled};
 ghost use Rattle.vault.specs.Books.{entries};
 
-use crate::book::{Book, Lease, Record, Table, Turn};
+use crate::book::{Book, Lease, Record, State, Turn};
 use credential::RoleName;
 use std::alloc::{AllocError, Global};
 
@@ -19,35 +19,24 @@ impl Book {
     {
         let mut records = Vec::new(heap);
         records.resize(RECORDS, Record::Free)?;
-        Ok(Book {
-            table: Table { records },
-        })
+        Ok(Book { records })
     }
 
-    // The first record with the lease of this serial, held or not yet, and that lease.
-    pub(crate) fn find(&self, serial: u32, held: bool) -> Option<(usize, Lease)>
-        ensures value { index result ≡ first (is_of serial held) (entries self.now) }
-        ensures lease { Found (entries self.now) serial held result }
+    // The first record with the lease of this serial in this state. Together the two are what a slip says of a lease,
+    // by its number and by its type.
+    pub(crate) fn find(&self, serial: u32, state: State) -> Option<usize>
+        ensures { result ≡ position (λ r. is_of serial state (entry r)) self.now.records.items }
     {
-        for i in 0..RECORDS {
-            if let Some(lease) = self.table.records[i].lease_of(serial, held) {
-                return Some((i, lease));
-            }
-        }
-        None
+        self.records
+            .iter()
+            .position(|record| record.is_of(serial, state))
     }
 
     // The first free record.
     pub(crate) fn find_free(&self) -> Option<usize>
-        ensures value { result ≡ first is_spare (entries self.now) }
-        ensures spare { Spare (entries self.now) result }
+        ensures { result ≡ position (λ r. is_spare (entry r)) self.now.records.items }
     {
-        for i in 0..RECORDS {
-            if self.table.records[i].is_free() {
-                return Some(i);
-            }
-        }
-        None
+        self.records.iter().position(|record| record.is_free())
     }
 
     // Turns one record by a call, and leaves the others; answers whether the record went with the call.
@@ -56,7 +45,17 @@ impl Book {
         ensures answer { result ≡ goes (slice_index_or (entries self.old) i is_free) call }
         ensures after { entries self.new ≡ slice_set (entries self.old) i (turned (slice_index_or (entries self.old) i is_free) call) }
     {
-        self.table.record_at(i).turn(call)
+        self.record_at(i).turn(call)
+    }
+
+    // Turns the record with the lease of this serial in this state by a call, and answers that lease.
+    pub(crate) fn settle(&mut self, serial: u32, state: State, call: Turn) -> Option<Lease>
+        ensures { Settled (entries self.old) serial state call result (entries self.new) }
+    {
+        let i = self.find(serial, state)?;
+        let lease = self.records[i].open_lease()?;
+        self.turn(i, call);
+        Some(lease)
     }
 
     // How many open leases are of this role name.
@@ -64,12 +63,9 @@ impl Book {
         ensures value { result ≡ in_book (λ l b. for name.number l) (entries self.now) }
         ensures few { result ≤ 256 }
     {
-        let mut count = 0;
-        for i in 0..RECORDS {
-            if self.table.records[i].is_open_for(name) {
-                count += 1;
-            }
-        }
-        count
+        self.records
+            .iter()
+            .filter(|record| record.is_open_for(name))
+            .count() as u32
     }
 }

@@ -1,8 +1,8 @@
 // What a call does to a record, and what can be asked of one.
 ghost use Rattle.std.specs.Prelude.{◌≡◌};
-ghost use Rattle.vault.specs.Entries.{entry, turned, goes, as_held, lease_in, read, open_lease, is_spare, is_for};
+ghost use Rattle.vault.specs.Entries.{entry, turned, goes, is_of, read, open_lease, is_spare, is_for};
 
-use crate::book::{Lease, Record, Turn};
+use crate::book::{Lease, Record, State, Turn};
 use credential::RoleName;
 
 impl Record {
@@ -16,8 +16,8 @@ impl Record {
                 *self = Record::Offered(lease);
                 true
             }
-            (Record::Offered(_), Turn::Draw) => {
-                *self = self.drawn();
+            (Record::Offered(lease), Turn::Draw) => {
+                *self = Record::Held(lease);
                 true
             }
             (Record::Offered(_), Turn::Decline) => {
@@ -32,63 +32,38 @@ impl Record {
         }
     }
 
-    // The record with its lease held.
-    fn drawn(self) -> Record
-        ensures { entry result ≡ as_held (entry self) }
+    // It has the lease of this serial in this state.
+    pub(crate) fn is_of(self, serial: u32, state: State) -> bool
+        ensures { result ≡ is_of serial state (entry self) }
     {
-        match self {
-            Record::Free => Record::Free,
-            Record::Offered(lease) => Record::Held(lease),
-            Record::Held(lease) => Record::Held(lease),
-        }
-    }
-
-    // Its lease, if that has this serial and is held, or is not yet.
-    pub(crate) fn lease_of(self, serial: u32, held: bool) -> Option<Lease>
-        ensures { read result ≡ lease_in serial held (entry self) }
-    {
-        match self {
-            Record::Free => None,
-            Record::Offered(lease) => if !held && lease.serial == serial {
-                Some(lease)
-            } else {
-                None
-            },
-            Record::Held(lease) => if held && lease.serial == serial {
-                Some(lease)
-            } else {
-                None
-            },
+        match (state, self) {
+            (State::Offered, Record::Offered(lease)) => lease.serial == serial,
+            (State::Held, Record::Held(lease)) => lease.serial == serial,
+            _ => false,
         }
     }
 
     // Its open lease: open is not free.
-    fn open_lease(self) -> Option<Lease>
+    pub(crate) fn open_lease(self) -> Option<Lease>
         ensures { read result ≡ open_lease (entry self) }
     {
         match self {
             Record::Free => None,
-            Record::Offered(lease) => Some(lease),
-            Record::Held(lease) => Some(lease),
+            Record::Offered(lease) | Record::Held(lease) => Some(lease),
         }
     }
 
     pub(crate) fn is_free(self) -> bool
         ensures { result ≡ is_spare (entry self) }
     {
-        match self.open_lease() {
-            Some(_) => false,
-            None => true,
-        }
+        self.open_lease().is_none()
     }
 
     // It has an open lease of this role name.
     pub(crate) fn is_open_for(self, name: RoleName) -> bool
         ensures { result ≡ is_for name.number (open_lease (entry self)) }
     {
-        match self.open_lease() {
-            Some(lease) => lease.membership.role.name.number() == name.number(),
-            None => false,
-        }
+        self.open_lease()
+            .is_some_and(|lease| lease.membership.role.name == name)
     }
 }

@@ -1,12 +1,12 @@
 // Making a ledger, and the calls that change it.
-ghost use Rattle.std.specs.Prelude.{◌≡◌, ◌+◌, ◌-◌, ◌<◌, replicate, IfOk, Decides};
+ghost use Rattle.std.specs.Prelude.{◌≡◌, replicate, IfOk, Decides};
 ghost use Rattle.credential.specs.Refusals.{answered};
-ghost use Rattle.history.specs.Contents.{is_free, is_offered, is_held, no_figures, figure, one_more};
+ghost use Rattle.history.specs.Contents.{is_free, is_offered, is_held, no_figures};
 ghost use Rattle.vault.specs.Ledgers.{posted, Recorded, Lent, Turned, drawn_at, declined_at, handed_back_at};
 
-use crate::book::{Book, Lease, Turn};
-use crate::ledger::Ledger;
-use credential::{Membership, Refusal, RoleName};
+use crate::book::{Book, Lease, State, Turn};
+use crate::ledger::{Figures, Ledger};
+use credential::{Membership, Refusal};
 use std::alloc::{AllocError, Global};
 
 // The most offers that a vault gives.
@@ -20,9 +20,7 @@ impl Ledger {
         let book = Book::new(heap)?;
         Ok(Ledger {
             given: 0,
-            givens: [0; 16],
-            declineds: [0; 16],
-            handed_backs: [0; 16],
+            figures: [Figures::default(); 16],
             book,
         })
     }
@@ -38,21 +36,20 @@ impl Ledger {
             return Err(Refusal::OffersSpent);
         }
         let serial = self.given + 1;
-        let _turned = self.book.turn(i, Turn::Offer(Lease { serial, membership }));
+        self.book.turn(i, Turn::Offer(Lease { serial, membership }));
         self.given = serial;
-        count(&mut self.givens, membership.role.name);
+        self.figures[membership.role.name.index()].given += 1;
         Ok(serial)
     }
 
-    // Marks the offered lease of this serial as held.
+    // Marks the offered lease of this serial as held. This call and the next two differ in all that they say: the
+    // state asked for, the turn, and the figure that counts it.
     pub(crate) fn draw(&mut self, serial: u32) -> Result<(), Refusal>
         ensures { Turned is_offered drawn_at (posted self.old) serial (answered result) (posted self.new) }
     {
-        let Some(found) = self.book.find(serial, false) else {
+        let Some(_lease) = self.book.settle(serial, State::Offered, Turn::Draw) else {
             return Err(Refusal::SlipUnknown);
         };
-        let (i, _lease) = found;
-        let _turned = self.book.turn(i, Turn::Draw);
         Ok(())
     }
 
@@ -60,12 +57,10 @@ impl Ledger {
     pub(crate) fn decline(&mut self, serial: u32) -> Result<(), Refusal>
         ensures { Turned is_offered declined_at (posted self.old) serial (answered result) (posted self.new) }
     {
-        let Some(found) = self.book.find(serial, false) else {
+        let Some(lease) = self.book.settle(serial, State::Offered, Turn::Decline) else {
             return Err(Refusal::SlipUnknown);
         };
-        let (i, lease) = found;
-        let _turned = self.book.turn(i, Turn::Decline);
-        count(&mut self.declineds, lease.membership.role.name);
+        self.figures[lease.membership.role.name.index()].declined += 1;
         Ok(())
     }
 
@@ -73,32 +68,17 @@ impl Ledger {
     pub(crate) fn hand_back(&mut self, serial: u32) -> Result<(), Refusal>
         ensures { Turned is_held handed_back_at (posted self.old) serial (answered result) (posted self.new) }
     {
-        let Some(found) = self.book.find(serial, true) else {
+        let Some(lease) = self.book.settle(serial, State::Held, Turn::HandBack) else {
             return Err(Refusal::SlipUnknown);
         };
-        let (i, lease) = found;
-        let _turned = self.book.turn(i, Turn::HandBack);
-        count(&mut self.handed_backs, lease.membership.role.name);
+        self.figures[lease.membership.role.name.index()].handed_back += 1;
         Ok(())
     }
-}
 
-impl Ledger {
-    // Whether a lease with this serial is open, held or not yet.
-    pub(crate) fn has(&self, serial: u32, held: bool) -> bool
-        ensures { Decides result (Recorded held (posted self.now) serial) }
+    // Whether a lease with this serial is open in this state.
+    pub(crate) fn has(&self, serial: u32, state: State) -> bool
+        ensures { Decides result (Recorded state (posted self.now) serial) }
     {
-        match self.book.find(serial, held) {
-            Some(_) => true,
-            None => false,
-        }
+        self.book.find(serial, state).is_some()
     }
-}
-
-// Counts one more for a role name.
-fn count(figures: &mut [u32; 16], name: RoleName)
-    requires { figure figures.old name.number + 1 < 4294967296 }
-    ensures { figures.new ≡ one_more name figures.old }
-{
-    figures[name.number() as usize - 1] += 1;
 }

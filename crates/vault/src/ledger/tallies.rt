@@ -5,39 +5,27 @@ ghost use Rattle.vault.specs.Ledgers.{posted, Tallied, AllTallied};
 use crate::ledger::Ledger;
 use crate::statement::Tally;
 use credential::RoleName;
+use std::array;
 
 impl Ledger {
     // The tallies of the sixteen role names, rising.
     pub(crate) fn tallies(&self) -> [Tally; 16]
-        ensures { AllTallied 16 (posted self.now) result }
+        ensures { AllTallied (posted self.now) result }
     {
-        let mut tallies = [Tally {
-            given: 0,
-            declined: 0,
-            handed_back: 0,
-            open: 0,
-        }; 16];
-        self.fill_tallies(&mut tallies);
-        tallies
+        array::from_fn(|i| self.tally(i))
     }
 
-    fn fill_tallies(&self, tallies: &mut [Tally; 16])
-        ensures { AllTallied 16 (posted self.now) tallies.new }
+    // That of the role name at an index.
+    fn tally(&self, index: usize) -> Tally
+        requires { index < 16 }
+        ensures { Tallied (posted self.now) (index + 1) result }
     {
-        for i in 0..16 {
-            tallies[i] = self.tally(name_at(i));
-        }
-    }
-
-    fn tally(&self, name: RoleName) -> Tally
-        ensures { Tallied (posted self.now) name.number result }
-    {
-        let index = name.number() as usize - 1;
+        let figures = self.figures[index];
         Tally {
-            given: self.givens[index],
-            declined: self.declineds[index],
-            handed_back: self.handed_backs[index],
-            open: self.book.open_of(name),
+            given: figures.given,
+            declined: figures.declined,
+            handed_back: figures.handed_back,
+            open: self.book.open_of(name_at(index)),
         }
     }
 }

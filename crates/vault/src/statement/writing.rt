@@ -1,9 +1,10 @@
 // Writing a statement, each figure into its own columns.
-ghost use Rattle.std.specs.Prelude.{◌≡◌, ◌+◌, ◌*◌, ◌<◌, ◌≤◌, [], ◌∷◌, ◌++◌, length, drop};
+ghost use Rattle.std.specs.Prelude.{◌≡◌, ◌≤◌, [], ◌∷◌, ◌++◌, length, drop};
 ghost use Rattle.credential.specs.Refusals.{answered};
 ghost use Rattle.page.specs.Numerals.{numeral};
-ghost use Rattle.vault.specs.Statements.{lines_to, statement_of, statement_answer, statement_after, row_of, joint, sums_to, row_text, Few};
+ghost use Rattle.vault.specs.Statements.{lines_to, statement_of, statement_answer, statement_after, row_text};
 
+use crate::statement::rows::{row_of, sum_rows};
 use crate::statement::{Row, Tally};
 use credential::Refusal;
 use page::numerals::write_number;
@@ -14,6 +15,7 @@ const LINE: usize = 3 + 5 * 7 + 1;
 const MOST: usize = 17 * LINE;
 
 // Writes the statement of sixteen tallies, under the units of each role name, and answers how many bytes were written.
+// The units stand beside the tallies, since they are fixed and the tallies are not: to put them together would copy both.
 pub fn write_statement(
     units: &[u16; 16],
     tallies: &[Tally; 16],
@@ -38,10 +40,10 @@ fn write_role_lines(units: &[u16; 16], tallies: &[Tally; 16], out: &mut [u8]) ->
     ensures after { out.new ≡ lines_to 16 units.now tallies.now ++ drop result out.old }
 {
     let mut end = 0;
-    for i in 0..16 {
-        let tally = tallies[i];
+    // The units by number, since the line needs the number too: a `zip` would only nest a pair in a pair.
+    for (i, tally) in tallies.iter().enumerate() {
         if tally.given > 0 {
-            let row = row_of(tally, units[i]);
+            let row = row_of(*tally, units[i]);
             write_role_line(&mut out[end..end + LINE], i as u32 + 1, row);
             end += LINE;
         }
@@ -75,6 +77,7 @@ fn write_blanks(columns: &mut [u8])
 }
 
 // The five figures in seven columns each, and the newline.
+// Column by column, since of what is written through `chunks_mut` a proof knows the length alone.
 fn write_row(line: &mut [u8], row: Row)
     requires { length line.old ≡ 36 }
     ensures { line.new ≡ row_text row }
@@ -85,53 +88,4 @@ fn write_row(line: &mut [u8], row: Row)
     write_number(&mut line[21..28], row.open);
     write_number(&mut line[28..35], row.units);
     line[35] = b'\n';
-}
-
-// The row of a tally, a lease of which has so many units.
-fn row_of(tally: Tally, units: u16) -> Row
-    ensures value { result ≡ row_of tally units }
-    ensures few { Few 1 result }
-{
-    Row {
-        given: tally.given,
-        declined: tally.declined,
-        handed_back: tally.handed_back,
-        open: tally.open,
-        units: tally.open * units as u32,
-    }
-}
-
-// The sums over all role names.
-fn sum_rows(units: &[u16; 16], tallies: &[Tally; 16]) -> Row
-    ensures { result ≡ sums_to 16 units.now tallies.now }
-{
-    let mut sum = Row {
-        given: 0,
-        declined: 0,
-        handed_back: 0,
-        open: 0,
-        units: 0,
-    };
-    for i in 0..16 {
-        sum = join(sum, row_of(tallies[i], units[i]));
-    }
-    sum
-}
-
-// Two rows, figure by figure.
-fn join(a: Row, b: Row) -> Row
-    requires given { a.given + b.given < 4294967296 }
-    requires declined { a.declined + b.declined < 4294967296 }
-    requires handed_back { a.handed_back + b.handed_back < 4294967296 }
-    requires open { a.«open» + b.«open» < 4294967296 }
-    requires units { a.units + b.units < 4294967296 }
-    ensures { result ≡ joint a b }
-{
-    Row {
-        given: a.given + b.given,
-        declined: a.declined + b.declined,
-        handed_back: a.handed_back + b.handed_back,
-        open: a.open + b.open,
-        units: a.units + b.units,
-    }
 }

@@ -1,30 +1,30 @@
 // Making a vault, and the calls on its register.
 ghost use Rattle.std.specs.Prelude.{◌≡◌, IfOk};
 ghost use Rattle.credential.specs.Refusals.{answered};
-ghost use Rattle.vault.specs.Vaults.{viewed, Made, Happened, publish_event, withdraw_event};
+ghost use Rattle.vault.specs.Vaults.{Made, Happened, publish_event, withdraw_event};
 
 use crate::kinds::VaultKind;
 use crate::ledger::Ledger;
 use crate::vaults::Vault;
-use credential::{Credential, Membership, Refusal};
+use crate::vaults::kept::Kept;
+use credential::{Credential, Refusal};
 use register::registers::Register;
 use std::alloc::{AllocError, Global};
 
 impl<R: Register + Drop, K: VaultKind + Drop> Vault<R, K> {
     // A vault over a register, whatever list that has, or the want of memory.
     pub fn new(heap: Global, kind: K, number: u16, register: R) -> Result<Vault<R, K>, AllocError>
-        ensures { IfOk result (λ v. Made K.VaultKind.kind number R.Register.limit (R.Source.list register) (viewed K.VaultKind.kind R.Source.list R.Register.limit v)) }
+        ensures { IfOk result (λ v. Made K.VaultKind.kind number R.Register.CAPACITY (R.Source.list register) v) }
     {
+        // Asked for what `most` promises: the list is within the capacity.
         let _capacity = register.most();
-        let mut verdicts = Vec::new(heap);
-        verdicts.resize(Membership::COUNT, 0)?;
+        let kept = Kept::new(heap)?;
         let ledger = Ledger::new(heap)?;
         Ok(Vault {
             kind,
             number,
             register,
-            stands: false,
-            verdicts,
+            kept,
             ledger,
         })
     }
@@ -38,19 +38,19 @@ impl<R: Register + Drop, K: VaultKind + Drop> Vault<R, K> {
 
     // Publishes a credential; where it is taken, no certificate stands any more.
     pub fn publish(&mut self, credential: Credential) -> Result<(), Refusal>
-        ensures { Happened (viewed K.VaultKind.kind R.Source.list R.Register.limit self.old) (publish_event credential (answered result)) (viewed K.VaultKind.kind R.Source.list R.Register.limit self.new) }
+        ensures { Happened self.old (publish_event credential (answered result)) self.new }
     {
         self.register.publish(credential)?;
-        self.stands = false;
+        self.kept.forget();
         Ok(())
     }
 
     // Withdraws the credential at a place; where it is taken, no certificate stands any more.
     pub fn withdraw(&mut self, place: usize) -> Result<(), Refusal>
-        ensures { Happened (viewed K.VaultKind.kind R.Source.list R.Register.limit self.old) (withdraw_event place (answered result)) (viewed K.VaultKind.kind R.Source.list R.Register.limit self.new) }
+        ensures { Happened self.old (withdraw_event place (answered result)) self.new }
     {
         self.register.withdraw(place)?;
-        self.stands = false;
+        self.kept.forget();
         Ok(())
     }
 }

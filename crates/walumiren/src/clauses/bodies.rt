@@ -1,26 +1,18 @@
 // The bodies of ground clauses.
 ghost use Rattle.std.specs.Prelude.{◌≡◌, IfSome, None};
-ghost use Rattle.model.specs.Clauses.{of, Gives, head as head_of};
+ghost use Rattle.credential.specs.Credentials.{head_of};
+ghost use Rattle.model.specs.Clauses.{of, Gives};
 ghost use Rattle.walumiren.specs.Explaining.{bodied};
 
 use crate::clauses::Body;
 use credential::{Credential, Entity, Membership, Role};
 
-// The role that a credential is about.
-pub(crate) fn head(credential: Credential) -> Role
-    ensures { result ≡ head_of credential }
-{
-    match credential {
-        Credential::Member { head, .. } => head,
-        Credential::Inclusion { head, .. } => head,
-        Credential::Linked { head, .. } => head,
-        Credential::Intersection { head, .. } => head,
-        Credential::Exclusion { head, .. } => head,
-    }
-}
-
-// The body of a ground clause that a credential gives the entity `member` of its head; a linked one gives a body for each entity `through`, the others give theirs through entity 1 alone.
-pub(crate) fn clause_body(credential: Credential, member: Entity, through: Entity) -> Option<Body>
+// The body of a ground clause that a credential gives the entity `member` of its head: a linked one gives one through each entity, the others give one through nobody.
+pub(crate) fn clause_body(
+    credential: Credential,
+    member: Entity,
+    through: Option<Entity>,
+) -> Option<Body>
     ensures { IfSome result (λ b. Gives credential (of (head_of credential) member) (bodied b)) }
 {
     match credential {
@@ -29,6 +21,7 @@ pub(crate) fn clause_body(credential: Credential, member: Entity, through: Entit
             first,
             second,
         } => {
+            let through = through?;
             let group = Role {
                 owner: head.owner,
                 name: first,
@@ -46,12 +39,10 @@ pub(crate) fn clause_body(credential: Credential, member: Entity, through: Entit
                 negated: None,
             })
         }
-        _ => {
-            if through.number() != 1 {
-                return None;
-            }
-            plain_body(credential, member)
-        }
+        _ => match through {
+            None => plain_body(credential, member),
+            Some(_) => None,
+        },
     }
 }
 

@@ -5,5 +5,5 @@ use Rattle.page.proofs.lines.read_fields.Given as goal
 
 abbrev pub invariant-loop-k : goal.invariant-loop-k
 invariant-loop-k l =
-    (read_fields l.marks l.text l.line ≡ behind (take l.k l.fields) (collected (6 - l.k) (read_field l.marks l.text l.line) l.k))
-    × (length l.fields ≡ 6)
+    (read_fields l.marks l.text l.line ≡ behind (take l.k l.field-items) (collected (6 - l.k) (read_field l.marks l.text l.line) l.k))
+    × (length l.field-items ≡ 6)

@@ -1,25 +1,16 @@
-use Rattle.std.proofs.Common.{arith}
-use Rattle.history.specs.Contents.{is_offered}
-use Rattle.vault.specs.declared.book.Turn.TheVariants.{Draw}
 use Rattle.vault.specs.Books.{entries}
 use Rattle.vault.specs.Entries.{lease}
+use Rattle.vault.specs.Balance.{in_lists}
 use Rattle.vault.specs.Ledgers.{posted}
-use Rattle.vault.proofs.Balance.{full_book, turned-there, balanced_draw}
+use Rattle.vault.proofs.Balance.{settled_draw}
 use Rattle.vault.proofs.ledger.Ledger.draw.Goals as goal
-
-pub turn-turned-requires : goal.turn-turned-requires
-turn-turned-requires c = omega (arith, c.in-Some.ensures.lease.0.0, full_book c.args.self.now.book)
 
 pub invariant_of-self : goal.invariant_of-self
 invariant_of-self c =
-    let x = lease c.in-Some.found.1 in
-    let h = c.in-Some.ensures.lease.0 in
-    let q = turned-there (entries c.args.self.now.book) (entries c.turn-turned.new.self) c.in-Some.found.0 (is_offered x) Draw h c.turn-turned.ensures.after in
-    record { few = c.args.self.now.few; balanced = balanced_draw _ _ _ _ _ _ _ c.args.self.now.balanced x h q }
+    let was = c.args.self.now in
+    record { few = was.few; balanced = settled_draw (in_lists was.given was.figures) (entries was.book) (entries c.settle.new.self) 0 was.balanced c.args.serial c.settle.result c.settle.ensures }
 
 pub returns : goal.returns
 returns c =
-    let x = lease c.in-Some.found.1 in
-    let h = c.in-Some.ensures.lease.0 in
-    let q = turned-there (entries c.args.self.now.book) (entries c.turn-turned.new.self) c.in-Some.found.0 (is_offered x) Draw h c.turn-turned.ensures.after in
-    (c.in-Some.found.0, x, c.in-Some.ensures.lease, λ j. record { figures = (posted c.args.self.now).figures; book = q j })
+    let s = c.in-Some.ensures in
+    (s.0, lease c.in-Some._lease, s.1, λ j. record { figures = (posted c.args.self.now).figures; book = s.2 j })

@@ -1,24 +1,26 @@
-use Rattle.std.proofs.Common.{arith}
-use Rattle.history.specs.Contents.{is_held}
-use Rattle.vault.specs.declared.book.Turn.TheVariants.{HandBack}
+use Rattle.std.proofs.Common.{sym, subst}
+use Rattle.history.specs.Contents.{Figures}
+use Rattle.vault.specs.Balance.{in_lists, Balanced}
 use Rattle.vault.specs.Books.{entries}
 use Rattle.vault.specs.Entries.{lease}
-use Rattle.vault.proofs.Balance.{full_book, turned-there, balanced_hand_back}
+use Rattle.vault.proofs.Balance.{balanced_hand_back, hand_back_counted}
 use Rattle.vault.proofs.ledger.Ledger.hand_back.Goals as goal
 
-pub turn-turned-requires : goal.turn-turned-requires
-turn-turned-requires c = omega (arith, c.in-Some.ensures.lease.0.0, full_book c.args.self.now.book)
-
-pub invariant_of-self : goal.invariant_of-self
-invariant_of-self c =
-    let x = lease c.in-Some.found.1 in
-    let h = c.in-Some.ensures.lease.0 in
-    let q = turned-there (entries c.args.self.now.book) (entries c.turn-turned.new.self) c.in-Some.found.0 (is_held x) HandBack h c.turn-turned.ensures.after in
-    record { few = c.args.self.now.few; balanced = balanced_hand_back _ _ _ _ _ _ _ c.args.self.now.balanced x c.count.new.figures h c.count.ensures q }
+pub invariant_of-self-2 : goal.invariant_of-self-2
+invariant_of-self-2 c =
+    let was = c.args.self.now in
+    let s = c.in-Some.ensures in
+    let x = lease c.in-Some.lease in
+    let e = hand_back_counted was.given was.figures x.membership.role.name c.index.result c.index.ensures.value was.balanced.2 in
+    record {
+      few = was.few;
+      balanced = subst (λ (f : Figures). Balanced f (entries c.settle.new.self)) (sym e) (balanced_hand_back (in_lists was.given was.figures) (entries was.book) (entries c.settle.new.self) s.0 was.balanced x s.1.0 s.2);
+    }
 
 pub returns : goal.returns
 returns c =
-    let x = lease c.in-Some.found.1 in
-    let h = c.in-Some.ensures.lease.0 in
-    let q = turned-there (entries c.args.self.now.book) (entries c.turn-turned.new.self) c.in-Some.found.0 (is_held x) HandBack h c.turn-turned.ensures.after in
-    (c.in-Some.found.0, x, c.in-Some.ensures.lease, λ j. record { figures = record { total = c.args.self.now.given; givens = c.args.self.now.givens; declineds = c.args.self.now.declineds; handed_backs = c.count.ensures j }; book = q j })
+    let was = c.args.self.now in
+    let s = c.in-Some.ensures in
+    let x = lease c.in-Some.lease in
+    let e = hand_back_counted was.given was.figures x.membership.role.name c.index.result c.index.ensures.value was.balanced.2 in
+    (s.0, x, s.1, λ j. record { figures = e j; book = s.2 j })

@@ -1,8 +1,6 @@
-use Rattle.std.proofs.Common.{◌≡◌, ℕ, arith}
+use Rattle.std.proofs.Common.{vec_items}
+use Rattle.vault.proofs.Found.{has_found}
 use Rattle.vault.proofs.ledger.Ledger.has.Goals as goal
 
-pub returns-in-None : goal.returns-in-None
-returns-in-None c = (
-  (λ q. let z : ◌≡◌ {A = ℕ} 0 1 = cc in absurd (omega arith)),
-  λ w. absurd (c.in-None.ensures.lease w.0 w.1 w.2),
-)
+pub returns : goal.returns
+returns c = rw c.is_some.ensures (has_found (vec_items c.args.self.now.book.records) c.args.serial c.args.state _ c.find.ensures)

@@ -1,5 +1,4 @@
 use Rattle.std.proofs.Common.{sym, refl, subst, arith}
-use mathlib.Core.Option.{none}
 use Rattle.history.specs.Events.{Making}
 use Rattle.history.specs.Contents.{Keeps}
 use Rattle.history.proofs.Keeping.{making_keeps}
@@ -11,7 +10,7 @@ returns g c =
     let k : Making = record {
       kind = g.K.VaultKind.kind;
       vault = c.args.number;
-      capacity = g.R.Register.limit;
+      capacity = g.R.Register.CAPACITY;
       list = g.R.Source.list c.args.register;
       numbered = omega (arith, c.ranges.number.fits);
       some_room = omega (arith, most.value, most.some);
@@ -19,4 +18,5 @@ returns g c =
       fits = most.within;
     } in
     let e = c.in_ok-ledger.ensures in
-    (k, refl, refl, refl, refl, subst (Keeps k _) (λ j. record { kind = k.kind; number = k.vault; capacity = k.capacity; list = k.list; kept = none; figures = (sym e j).figures; book = (sym e j).book }) (making_keeps k))
+    let n = c.in_ok-kept.ensures in
+    (k, refl, refl, refl, refl, subst (Keeps k _) (λ j. record { kind = k.kind; number = k.vault; capacity = k.capacity; list = k.list; kept = sym n j; figures = (sym e j).figures; book = (sym e j).book }) (making_keeps k))

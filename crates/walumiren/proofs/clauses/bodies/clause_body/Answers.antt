@@ -5,13 +5,13 @@ use Rattle.model.specs.Clauses.{of, Gives, head}
 use Rattle.walumiren.proofs.clauses.bodies.clause_body.Goals as goal
 
 -- the clause goes through the entity that was passed
-pub returns-in-Linked : goal.returns-in-Linked
-returns-in-Linked c =
+pub returns-in_ok-through-in-Linked : goal.returns-in_ok-through-in-Linked
+returns-in_ok-through-in-Linked c =
     subst (λ (k : Credential).
     Gives k (of (head k) c.args.member)
     (record {
-      positive = of (record { owner = c.in-Linked.head.owner; name = c.in-Linked.first }) c.args.through
-          ∷ of (record { owner = c.args.through; name = c.in-Linked.second }) c.args.member ∷ [];
+      positive = of (record { owner = c.in-Linked.head.owner; name = c.in-Linked.first }) c.in_ok-through-in-Linked.through
+          ∷ of (record { owner = c.in_ok-through-in-Linked.through; name = c.in-Linked.second }) c.args.member ∷ [];
       negated = none;
     }))
-    (sym c.in-Linked.is) (refl, (c.args.through, refl))
+    (sym c.in-Linked.is) (refl, (c.in_ok-through-in-Linked.through, refl))

@@ -1,8 +1,0 @@
-use Rattle.std.proofs.Common.{◌≡◌, ◌<◌, Ok}
-use Rattle.credential.specs.Memberships.{place}
-use Rattle.credential.specs.declared.memberships.Membership.{Membership}
-use Rattle.checker.specs.Rules.{entry_refusal}
-use Rattle.checker.proofs.entries.check_entries.Given as goal
-
-abbrev pub invariant-loop-index : goal.invariant-loop-index
-invariant-loop-index l = (k : Membership) → place k < l.index → entry_refusal l.credentials l.verdicts l.numbers k ≡ Ok tt

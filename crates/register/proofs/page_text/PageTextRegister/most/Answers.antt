@@ -1,8 +1,0 @@
-use Rattle.std.proofs.Common.{vec_items, arith, rules}
-use Rattle.register.proofs.Texts.{text_length}
-use Rattle.register.proofs.page_text.PageTextRegister.most.Goals as goal
-
-pub returns : goal.returns
-returns c =
-    let n = text_length (vec_items c.args.self.now.text) c.args.self.now.lawful in
-    record { value = search rules; some = search rules; few = search rules; within = omega (arith, c.args.self.now.text.ok.0) }
