@@ -26,7 +26,7 @@ impl<'a> Question<'a> {
         ensures about { result.about ≡ about }
         ensures want { result.want ≡ want }
     {
-        let number = tables.entry(about).number;
+        let number = tables.number(about);
         Question {
             tables,
             about,

@@ -43,6 +43,13 @@ impl<'a> Tables<'a> {
             number: self.numbers[place],
         }
     }
+
+    // The number alone: a question is put for every entry, and asks for no more.
+    pub(crate) fn number(self, m: Membership) -> u16
+        ensures { result ≡ slice_index self.entry.numbers.now (place m) }
+    {
+        self.numbers[m.place()]
+    }
 }
 
 // The list by its length, if that is one entry for each membership.

@@ -4,6 +4,7 @@ ghost use Rattle.std.specs.Result.{result_ok};
 ghost use Rattle.credential.specs.Letters.{letter_byte, letter_in, marks_of, tested, ranged, unplaced, placed_at};
 ghost use Rattle.credential.specs.Refusals.{named};
 
+use crate::numbers::{Entity, RoleName};
 use crate::refusals::Refusal;
 
 // The kinds of credentials.
@@ -91,8 +92,8 @@ impl Mark {
         ensures { result ≡ tested self field }
     {
         match (self, field) {
-            (Mark::Entity, Some(n)) => in_range(n, 32),
-            (Mark::RoleName, Some(n)) => in_range(n, 16),
+            (Mark::Entity, Some(n)) => in_range(n, Entity::MOST as u32),
+            (Mark::RoleName, Some(n)) => in_range(n, RoleName::MOST as u32),
             (Mark::Blank, None) => Ok(()),
             (Mark::Entity, None) => Err(Misfit::Form),
             (Mark::RoleName, None) => Err(Misfit::Form),

@@ -36,6 +36,11 @@ module _ (bytes rest x more : List ℕ) (i : ℕ) (r : rest ≡ drop (20 * i) by
       sym (ap (λ (j : ℕ). drop j bytes) d ∙ sym (drop-drop 20 (20 * i) bytes) ∙ ap (λ (t : List ℕ). drop 20 t) (sym r ∙ e) ∙ drop_at x more 20 (omega arith)))
       (cases_lt (length rest) 20)
 
+-- an answer of the reader as an option
+pub as_option : (r : Result Credential Refusal) (c : Credential) → answered r ≡ Ok c → result_ok r ≡ Some c
+as_option (Ok x) c e = cc
+as_option (Err d) c e = never _ c e
+
 -- a lawful page
 
 ok_is : (r : Result (List Credential) Named) → is_ok r ≡ true → r ≡ Ok (list_of r)

@@ -1,4 +1,5 @@
 pub mod Equality
 pub mod Outcomes
+pub mod Places
 pub mod Walks
 pub mod Texts

@@ -1,6 +1,7 @@
 -- A lawful page with a line more, and with a line less.
 use Rattle.std.proofs.Common.{◌≡◌, ℕ, ◌+◌, ◌-◌, ◌*◌, ◌<◌, ◌≤◌, true, List, [], ◌∷◌, ◌++◌, length, take, drop, is_ok, Ok, sym, refl, ap, ◌∙◌, append_assoc, arith, length-append, length-drop}
-use Rattle.std.proofs.lemmas.List.{take-append-drop, take_at, drop_at, append-nil, length-take-le}
+use borrow.Rule.Slice.PartMut.{put_mid}
+use Rattle.std.proofs.lemmas.List.{take-append-drop, take_at, drop_at, drop-drop, append-nil, length-take-le}
 use Rattle.credential.specs.declared.credentials.Credential.{Credential}
 use Rattle.page.specs.Lines.{line_of}
 use Rattle.page.specs.Pages.{read_page, list_of, credentials_of, page_of}
@@ -62,3 +63,9 @@ module _ (bs : List ℕ) (lawful : is_ok (read_page bs) ≡ true) where
       ∙ ap (λ (k : ℕ). page_of (take (p - 1) (credentials_of bs)) ++ drop k bs) q
       ∙ ap (λ (t : List ℕ). page_of (take (p - 1) (credentials_of bs)) ++ t) (text_rest p h)
       ∙ sym (page-append (take (p - 1) (credentials_of bs)) (drop p (credentials_of bs))))
+
+-- bytes after a part of them is written
+pub part_put : (a k n : ℕ) (xs ys zs : List ℕ) → n ≡ a + k → ys ≡ zs → put_mid a k xs ys ≡ take a xs ++ (zs ++ drop n xs)
+part_put a k n xs ys zs m e =
+    ap (λ (t : List ℕ). put_mid a k xs t) e
+    ∙ ap (λ (t : List ℕ). take a xs ++ (zs ++ t)) (drop-drop k a xs ∙ ap (λ (j : ℕ). drop j xs) (sym m))

@@ -43,7 +43,7 @@ first-none {X} p k (x ∷ xs) e = go (p x) refl e (first-none p (k + 1) xs)
     go false t q f = earlier p x xs (length xs) t (f q)
 
 -- the lease that an entry has, and the entry
-its_entry : (n : ℕ) (t : State) (e : Entry) → is_of n t e ≡ true → (x : Lease) × (e ≡ in_state t x) × (x.serial ≡ n)
+pub its_entry : (n : ℕ) (t : State) (e : Entry) → is_of n t e ≡ true → (x : Lease) × (e ≡ in_state t x) × (x.serial ≡ n)
 its_entry n t is_free q = let z : ◌≡◌ {A = ℕ} 0 1 = cc in absurd (omega arith)
 its_entry n s.Offered (is_offered y) q = (y, refl, eqb-true y.serial n q)
 its_entry n s.Held (is_offered y) q = let z : ◌≡◌ {A = ℕ} 0 1 = cc in absurd (omega arith)

@@ -1,9 +1,9 @@
 // A case of checking: a certificate, given as the entries that differ from all F 1 or from the least one.
+use crate::pages::page_or_empty;
 use crate::tables::all_false;
 use anyhow::anyhow;
 use checker::check;
 use evaluator::evaluate;
-use page::Page;
 
 pub(crate) fn print_checked(
     rt: &HostRuntime,
@@ -12,7 +12,7 @@ pub(crate) fn print_checked(
     line: &str,
 ) -> anyhow::Result<()> {
     let (mut verdicts, mut numbers) = all_false(rt.alloc())?;
-    let page = Page::read(bytes)?;
+    let page = page_or_empty(bytes)?;
     let mut words = line.split(' ').skip(3);
     if words.next() == Some("least") {
         evaluate(&page, verdicts.as_mut_slice(), numbers.as_mut_slice())?;
@@ -41,9 +41,12 @@ fn put_entry(verdicts: &mut [u8], numbers: &mut [u16], word: &str) -> anyhow::Re
         return Err(anyhow!("an entry without a number"));
     };
     let place = place.parse::<usize>()?;
+    let byte = byte.parse::<u8>()?;
+    let number = number.parse::<u16>()?;
+    // A place past the tables has no entry to change, but what stands behind it is read all the same.
     if let (Some(v), Some(n)) = (verdicts.get_mut(place), numbers.get_mut(place)) {
-        *v = byte.parse::<u8>()?;
-        *n = number.parse::<u16>()?;
+        *v = byte;
+        *n = number;
     }
     Ok(())
 }

@@ -11,6 +11,7 @@ use std::io::{BufRead, BufReader};
 mod checking;
 mod evaluating;
 mod hex;
+mod pages;
 mod reading;
 mod tables;
 

@@ -3,12 +3,20 @@ ghost use Rattle.std.specs.Prelude.{◌≡◌, ◌-◌, ◌<◌, ◌≤◌};
 ghost use Rattle.credential.specs.Numbers.{number_of};
 ghost use Rattle.credential.specs.Refusals.{answered};
 
-use crate::numbers::Number;
+use crate::numbers::{Entity, Number, RoleName};
 use crate::refusals::Refusal;
 
-impl<const MOST: u8> Number<MOST> {
-    pub const MOST: u8 = MOST;
+impl Entity {
+    // The last entity.
+    pub const MOST: u8 = 32;
+}
 
+impl RoleName {
+    // The last role name.
+    pub const MOST: u8 = 16;
+}
+
+impl<const MOST: u8> Number<MOST> {
     // The entity or role name of a number, or the refusal of one out of range.
     pub fn new(number: u32) -> Result<Number<MOST>, Refusal>
         ensures { answered result ≡ number_of MOST number }

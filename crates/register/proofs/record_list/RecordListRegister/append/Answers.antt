@@ -1,4 +1,4 @@
-use Rattle.std.proofs.Common.{Err, ap, ◌∙◌}
+use Rattle.std.proofs.Common.{rules, Err, ap, ◌∙◌}
 use Rattle.std.proofs.lemmas.Result.{err_from_is_err_and}
 use Rattle.credential.specs.declared.refusals.Refusal.{Refusal}
 use Rattle.credential.specs.Refusals.{named, answered}
@@ -17,4 +17,4 @@ pub returns-clause-answer : goal.returns-clause-answer
 returns-clause-answer c = (appended_taken _ _ c.args.credential _ c.count.ensures.value c.in_ok-room.ensures).0
 
 pub returns-clause-list : goal.returns-clause-list
-returns-clause-list c = c.push_reserved.ensures.items ∙ (appended_taken _ _ c.args.credential _ c.count.ensures.value c.in_ok-room.ensures).1
+returns-clause-list c = search (rules, (appended_taken _ _ c.args.credential _ c.count.ensures.value c.in_ok-room.ensures).1)

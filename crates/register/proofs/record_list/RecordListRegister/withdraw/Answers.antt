@@ -1,4 +1,4 @@
-use Rattle.std.proofs.Common.{◌≡◌, ℕ, suc, ◌-◌, ◌++◌, take, drop, vec_items, Err, ap, ◌∙◌, arith}
+use Rattle.std.proofs.Common.{rules, ◌≡◌, ℕ, suc, ◌-◌, ◌++◌, take, drop, vec_items, Err, ap, ◌∙◌, arith}
 use Rattle.std.proofs.lemmas.Result.{err_from_is_err_and}
 use Rattle.credential.specs.declared.refusals.Refusal.{Refusal}
 use Rattle.credential.specs.Refusals.{named, answered}
@@ -21,5 +21,4 @@ returns-clause-list c =
     let xs = vec_items c.args.self.now.records in
     let w = located-within c.args.place c.count.result c.in_ok-locate.ensures in
     let p : suc (c.args.place - 1) ≡ c.args.place = omega arith in
-    c.remove-taken.ensures.items ∙ ap (λ (k : ℕ). take (c.args.place - 1) xs ++ drop k xs) p
-    ∙ (withdrawn_taken _ c.args.place _ c.count.ensures.value c.in_ok-locate.ensures).1
+    search (rules, ap (λ (k : ℕ). take (c.args.place - 1) xs ++ drop k xs) p ∙ (withdrawn_taken _ c.args.place _ c.count.ensures.value c.in_ok-locate.ensures).1)
